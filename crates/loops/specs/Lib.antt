@@ -1,0 +1,7 @@
+pub mod Choice
+pub mod First
+pub mod Any
+pub mod Sum
+pub mod Fold
+pub mod Table
+pub mod Row
