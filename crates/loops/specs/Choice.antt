@@ -4,7 +4,7 @@ use Prim.Native.Nat.{ℕ, _<_, _≤_}
 use native.Mathlib.Omega.{arith}
 use mathlib.Core.Path.{_≡_, refl, sym, ap, _∙_}
 use mathlib.Core.List.{List}
-use mathlib.Core.Bool.{Bool, true, false}
+use mathlib.Core.Bool.{Bool, true, false, not}
 use mathlib.Core.Logic.{_⊎_, inl, inr}
 use borrow.Author.Tests.{lt-ltb, le-ltb, le-leb, lt-leb, eq-eqb, ne-eqb}
 use lib.ListN.{getD, set}
@@ -46,6 +46,15 @@ not-true false f = refl
 pub not-false : (t : Bool) → (t ≡ false → ⊥) → t ≡ true
 not-false true f = refl
 not-false false f = absurd (f refl)
+
+-- a negated test
+pub not-is-true : (t : Bool) → not t ≡ true → t ≡ false
+not-is-true true e = absurd (true-false (sym e))
+not-is-true false e = refl
+
+pub not-is-false : (t : Bool) → not t ≡ false → t ≡ true
+not-is-false true e = refl
+not-is-false false e = absurd (true-false e)
 
 pub if-true : {A : Type 0} (t : Bool) (a b : A) → t ≡ true → if t a b ≡ a
 unfolding if

@@ -1,0 +1,10 @@
+pub mod Value
+pub mod Faults
+pub mod Tests
+pub mod Running
+pub mod Passed
+pub mod Formed
+pub mod Onto
+pub mod Seating
+pub mod Agree
+pub mod Unique

@@ -1,0 +1,101 @@
+-- Tests 3 and 5 to 8, the process of a node and the shape of a plan value, as the program works them out.
+-- Assumes nothing.
+use Prim.Native.Nat.{ℕ, suc, _-_}
+use mathlib.Core.List.{List}
+use mathlib.Core.Bool.{Bool, true, false}
+use lib.Dec.{eqb, ltb, leb}
+use Rattle.loops.specs.Choice.{at, if, both, either}
+use Rattle.loops.specs.First.{first}
+use Rattle.loops.specs.Any.{any}
+use Rattle.plan.specs.declared.Plan.{Plan}
+use Rattle.plan.specs.Value.{base, counter-sum}
+
+-- x is below `low` or above `high`
+unfoldable pub outside : ℕ → ℕ → ℕ → Bool
+outside low high x = either (ltb x low) (ltb high x)
+
+-- number 3
+unfoldable pub bad-counts : ℕ → ℕ → ℕ → ℕ → ℕ → Bool
+bad-counts nodes processes edges counters modulus =
+    either (outside 1 64 nodes) (either (outside 1 64 processes) (either (outside 1 512 edges) (either (outside 1 64 counters) (outside 1 2000000000 modulus))))
+
+-- number 5, its first part
+unfoldable pub zero-length : List ℕ → ℕ → Bool
+zero-length lengths p = eqb (at lengths p) 0
+
+-- number 6
+unfoldable pub same-entry : List ℕ → ℕ → ℕ → Bool
+same-entry order i j = eqb (at order j) (at order i)
+
+unfoldable pub bad-order : List ℕ → ℕ → ℕ → Bool
+bad-order order nodes i = either (leb nodes (at order i)) (any (same-entry order i) i)
+
+-- number 7
+unfoldable pub bad-node : List ℕ → List ℕ → ℕ → ℕ → Bool
+bad-node counter increment counters v = either (leb counters (at counter v)) (ltb 255 (at increment v))
+
+-- number 8: the pair (c, d) is not above the pair (a, b)
+unfoldable pub not-above : ℕ → ℕ → ℕ → ℕ → Bool
+not-above a b c d = either (ltb c a) (both (eqb c a) (leb d b))
+
+-- edge e has an edge before it and is not above that one
+unfoldable pub not-rising : List ℕ → List ℕ → ℕ → Bool
+not-rising source destination e =
+    both (ltb 0 e) (not-above (at source (e - 1)) (at destination (e - 1)) (at source e) (at destination e))
+
+unfoldable pub bad-edge : List ℕ → List ℕ → List ℕ → ℕ → ℕ → Bool
+bad-edge source destination tokens nodes e =
+    either (leb nodes (at source e)) (either (leb nodes (at destination e)) (either (ltb 1000 (at tokens e)) (not-rising source destination e)))
+
+-- the position of a node in the firing order
+unfoldable pub stands-at : List ℕ → ℕ → ℕ → Bool
+stands-at order v i = eqb (at order i) v
+
+unfoldable pub place-of : List ℕ → ℕ → ℕ → ℕ
+place-of order nodes v = first (stands-at order v) nodes
+
+-- the process of a position
+unfoldable pub ends-past : List ℕ → ℕ → ℕ → Bool
+ends-past lengths i p = ltb i (base lengths (suc p))
+
+unfoldable pub process-at : List ℕ → ℕ → ℕ → ℕ
+process-at lengths processes i = first (ends-past lengths i) processes
+
+-- the process of a node
+unfoldable pub home-of : List ℕ → List ℕ → ℕ → ℕ → ℕ → ℕ
+home-of order lengths nodes processes v = process-at lengths processes (place-of order nodes v)
+
+unfoldable pub home : Plan → ℕ → ℕ
+home pl v = home-of (pl .order) (pl .lengths) (pl .nodes) (pl .processes) v
+
+-- its seat in that process's round
+unfoldable pub seat : Plan → ℕ → ℕ
+seat pl v = place-of (pl .order) (pl .nodes) v - base (pl .lengths) (home pl v)
+
+-- the ends of an edge are in different processes
+unfoldable pub synchronises : Plan → ℕ → Bool
+synchronises pl e = if (eqb (home pl (at (pl .source) e)) (home pl (at (pl .destination) e))) false true
+
+-- the same from a table of the processes of the nodes
+unfoldable pub different : List ℕ → ℕ → ℕ → Bool
+different homes v w = if (eqb (at homes v) (at homes w)) false true
+
+-- the shape of a plan value, test by test
+unfoldable pub q-fits : Plan → Bool
+q-fits pl = both (eqb (counter-sum pl 0) (pl .q)) (leb 1 (pl .q))
+
+unfoldable pub edges-fit : Plan → Bool
+edges-fit pl = if (ltb (first (bad-edge (pl .source) (pl .destination) (pl .tokens) (pl .nodes)) (pl .edges)) (pl .edges)) false (q-fits pl)
+
+unfoldable pub nodes-fit : Plan → Bool
+nodes-fit pl = if (ltb (first (bad-node (pl .counter) (pl .increment) (pl .counters)) (pl .nodes)) (pl .nodes)) false (edges-fit pl)
+
+unfoldable pub order-fits : Plan → Bool
+order-fits pl = if (ltb (first (bad-order (pl .order) (pl .nodes)) (pl .nodes)) (pl .nodes)) false (nodes-fit pl)
+
+unfoldable pub lengths-fit : Plan → Bool
+lengths-fit pl =
+    if (ltb (first (zero-length (pl .lengths)) (pl .processes)) (pl .processes)) false (if (eqb (base (pl .lengths) (pl .processes)) (pl .nodes)) (order-fits pl) false)
+
+unfoldable pub plan-fits : Plan → Bool
+plan-fits pl = if (bad-counts (pl .nodes) (pl .processes) (pl .edges) (pl .counters) (pl .modulus)) false (lengths-fit pl)

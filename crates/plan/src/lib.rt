@@ -1,0 +1,456 @@
+// The plan value, tests 3 and 5 to 8 over it, its shape, and the process of each node.
+ghost use mathlib.Core.Path.{_≡_};
+ghost use Prim.Native.Nat.{_<_, _≤_};
+ghost use Rattle.loops.specs.Choice.{at};
+ghost use Rattle.loops.specs.First.{first};
+ghost use Rattle.loops.specs.Any.{any};
+ghost use Rattle.loops.specs.Sum.{sum};
+ghost use Rattle.loops.specs.Table.{padded};
+ghost use Rattle.plan.specs.Value.{base, share};
+ghost use Rattle.plan.specs.Faults.{CountsFit};
+ghost use Rattle.plan.specs.Tests.{outside, bad-counts, zero-length, same-entry, bad-order, bad-node, not-above, not-rising, bad-edge};
+ghost use Rattle.plan.specs.Tests.{stands-at, place-of, process-at, home-of, different, q-fits, edges-fit, nodes-fit, order-fits, lengths-fit, plan-fits};
+
+pub struct Plan {
+    pub nodes: u16,
+    pub processes: u16,
+    pub edges: u16,
+    pub counters: u16,
+    pub modulus: u32,
+    pub q: u32,
+    pub lengths: [u16; 64],
+    pub order: [u16; 64],
+    pub counter: [u16; 64],
+    pub increment: [u16; 64],
+    pub source: [u16; 512],
+    pub destination: [u16; 512],
+    pub tokens: [u16; 512],
+}
+
+// A table's number, wide enough to index with.
+pub fn wide(x: u16) -> usize
+    ensures { λ r. ⌜ r ≡ x ⌝ }
+{
+    x as usize
+}
+
+// A number below its least value or above its greatest.
+fn is_outside(low: u32, high: u32, x: u32) -> bool
+    ensures { λ r. ⌜ r ≡ outside low high x ⌝ }
+{
+    if x < low { true } else { high < x }
+}
+
+// Number 3: a count or N outside its bounds.
+pub fn counts_bad(nodes: u16, processes: u16, edges: u16, counters: u16, modulus: u32) -> bool
+    ensures { λ r. ⌜ r ≡ bad-counts nodes processes edges counters modulus ⌝ }
+{
+    if is_outside(1, 64, nodes as u32) {
+        return true;
+    }
+    if is_outside(1, 64, processes as u32) {
+        return true;
+    }
+    if is_outside(1, 512, edges as u32) {
+        return true;
+    }
+    if is_outside(1, 64, counters as u32) {
+        return true;
+    }
+    is_outside(1, 2000000000, modulus)
+}
+
+// A process length 0.
+fn zero_length_at(lengths: &[u16; 64], k: usize) -> bool
+    requires { ⌜ k < 64 ⌝ }
+    ensures { λ r. ⌜ r ≡ zero-length (now (lengths .entry)) k ⌝ }
+{
+    lengths[k] == 0
+}
+
+// Number 5: the lowest process with length 0, or the number of processes.
+pub fn first_zero_length(lengths: &[u16; 64], processes: usize) -> usize
+    requires { ⌜ processes ≤ 64 ⌝ }
+    ensures { λ r. ⌜ r ≡ first (zero-length (now (lengths .entry))) processes ⌝ }
+{
+    let mut k: usize = 0;
+    while k < processes {
+        if zero_length_at(lengths, k) {
+            return k;
+        }
+        k += 1;
+    }
+    k
+}
+
+// The length of a process.
+fn length_at(lengths: &[u16; 64], p: usize) -> u16
+    requires { ⌜ p < 64 ⌝ }
+    ensures { λ r. ⌜ r ≡ at (now (lengths .entry)) p ⌝ }
+{
+    lengths[p]
+}
+
+// Number 5: what the process lengths add up to; also where a process begins in the firing order.
+pub fn lengths_sum(lengths: &[u16; 64], processes: usize) -> usize
+    requires { ⌜ processes ≤ 64 ⌝ }
+    ensures { λ r. ⌜ r ≡ base (now (lengths .entry)) processes ⌝ }
+{
+    let mut sum: usize = 0;
+    let mut p: usize = 0;
+    while p < processes {
+        sum += length_at(lengths, p) as usize;
+        p += 1;
+    }
+    sum
+}
+
+// A node seen before in the firing order.
+fn seen_before(order: &[u16; 64], i: usize) -> bool
+    requires { ⌜ i < 64 ⌝ }
+    ensures { λ r. ⌜ r ≡ any (same-entry (now (order .entry)) i) i ⌝ }
+{
+    let x = order[i];
+    let mut j: usize = 0;
+    while j < i {
+        if order[j] == x {
+            return true;
+        }
+        j += 1;
+    }
+    false
+}
+
+// An order entry not a node, or a node seen before.
+fn bad_order_at(order: &[u16; 64], nodes: usize, i: usize) -> bool
+    requires { ⌜ i < 64 ⌝ }
+    ensures { λ r. ⌜ r ≡ bad-order (now (order .entry)) nodes i ⌝ }
+{
+    if nodes <= wide(order[i]) {
+        true
+    } else {
+        seen_before(order, i)
+    }
+}
+
+// Number 6: the lowest order position that has an entry not a node or a node seen before, or the number of nodes.
+pub fn first_bad_order(order: &[u16; 64], nodes: usize) -> usize
+    requires { ⌜ nodes ≤ 64 ⌝ }
+    ensures { λ r. ⌜ r ≡ first (bad-order (now (order .entry)) nodes) nodes ⌝ }
+{
+    let mut i: usize = 0;
+    while i < nodes {
+        if bad_order_at(order, nodes, i) {
+            return i;
+        }
+        i += 1;
+    }
+    i
+}
+
+// Counter unknown, increment too large.
+fn bad_node_at<'a>(
+    counter: &'a [u16; 64],
+    increment: &'a [u16; 64],
+    counters: usize,
+    v: usize,
+) -> bool
+    requires { ⌜ v < 64 ⌝ }
+    ensures { λ r. ⌜ r ≡ bad-node (now (counter .entry)) (now (increment .entry)) counters v ⌝ }
+{
+    if counters <= wide(counter[v]) {
+        true
+    } else {
+        255 < increment[v]
+    }
+}
+
+// Number 7: the lowest node whose counter is unknown or whose increment is too large, or the number of nodes.
+pub fn first_bad_node<'a>(
+    counter: &'a [u16; 64],
+    increment: &'a [u16; 64],
+    counters: usize,
+    nodes: usize,
+) -> usize
+    requires { ⌜ nodes ≤ 64 ⌝ }
+    ensures { λ r. ⌜ r ≡ first (bad-node (now (counter .entry)) (now (increment .entry)) counters) nodes ⌝ }
+{
+    let mut v: usize = 0;
+    while v < nodes {
+        if bad_node_at(counter, increment, counters, v) {
+            return v;
+        }
+        v += 1;
+    }
+    v
+}
+
+// The pair (c, d) is not above the pair (a, b): by source, then destination.
+fn not_above(a: u16, b: u16, c: u16, d: u16) -> bool
+    ensures { λ r. ⌜ r ≡ not-above a b c d ⌝ }
+{
+    if c < a {
+        return true;
+    }
+    if c == a { d <= b } else { false }
+}
+
+// An edge not above the one before it.
+fn not_rising_at<'a>(source: &'a [u16; 512], destination: &'a [u16; 512], e: usize) -> bool
+    requires { ⌜ e < 512 ⌝ }
+    ensures { λ r. ⌜ r ≡ not-rising (now (source .entry)) (now (destination .entry)) e ⌝ }
+{
+    if 0 < e {
+        not_above(source[e - 1], destination[e - 1], source[e], destination[e])
+    } else {
+        false
+    }
+}
+
+// An end unknown, too many tokens, edge not above the one before it.
+fn bad_edge_at<'a>(
+    source: &'a [u16; 512],
+    destination: &'a [u16; 512],
+    tokens: &'a [u16; 512],
+    nodes: usize,
+    e: usize,
+) -> bool
+    requires { ⌜ e < 512 ⌝ }
+    ensures { λ r. ⌜ r ≡ bad-edge (now (source .entry)) (now (destination .entry)) (now (tokens .entry)) nodes e ⌝ }
+{
+    if nodes <= wide(source[e]) {
+        return true;
+    }
+    if nodes <= wide(destination[e]) {
+        return true;
+    }
+    if 1000 < tokens[e] {
+        return true;
+    }
+    not_rising_at(source, destination, e)
+}
+
+// Number 8: the lowest edge with an end unknown, too many tokens or not above the one before it, or the number of edges.
+pub fn first_bad_edge<'a>(
+    source: &'a [u16; 512],
+    destination: &'a [u16; 512],
+    tokens: &'a [u16; 512],
+    nodes: usize,
+    edges: usize,
+) -> usize
+    requires { ⌜ edges ≤ 512 ⌝ }
+    ensures { λ r. ⌜ r ≡ first (bad-edge (now (source .entry)) (now (destination .entry)) (now (tokens .entry)) nodes) edges ⌝ }
+{
+    let mut e: usize = 0;
+    while e < edges {
+        if bad_edge_at(source, destination, tokens, nodes, e) {
+            return e;
+        }
+        e += 1;
+    }
+    e
+}
+
+// What a firing of a node adds to counter c.
+fn share_of<'a>(counter: &'a [u16; 64], increment: &'a [u16; 64], c: usize, v: usize) -> u16
+    requires { ⌜ v < 64 ⌝ }
+    ensures { λ r. ⌜ r ≡ share (now (counter .entry)) (now (increment .entry)) c v ⌝ }
+{
+    if wide(counter[v]) == c {
+        increment[v]
+    } else {
+        0
+    }
+}
+
+// The sum of the increments of the nodes that have counter c.
+pub fn counter_sum<'a>(
+    counter: &'a [u16; 64],
+    increment: &'a [u16; 64],
+    nodes: usize,
+    c: usize,
+) -> u32
+    requires { ⌜ nodes ≤ 64 ⌝ }
+    ensures { λ r. ⌜ r ≡ sum (share (now (counter .entry)) (now (increment .entry)) c) nodes ⌝ }
+{
+    let mut sum: u32 = 0;
+    let mut v: usize = 0;
+    while v < nodes {
+        sum += share_of(counter, increment, c, v) as u32;
+        v += 1;
+    }
+    sum
+}
+
+// A node stands at an order position.
+fn stands_at(order: &[u16; 64], v: usize, i: usize) -> bool
+    requires { ⌜ i < 64 ⌝ }
+    ensures { λ r. ⌜ r ≡ stands-at (now (order .entry)) v i ⌝ }
+{
+    wide(order[i]) == v
+}
+
+// The order position of a node, or the number of nodes where it has none.
+pub fn position_of_node(order: &[u16; 64], nodes: usize, v: usize) -> usize
+    requires { ⌜ nodes ≤ 64 ⌝ }
+    ensures { λ r. ⌜ r ≡ place-of (now (order .entry)) nodes v ⌝ }
+{
+    let mut i: usize = 0;
+    while i < nodes {
+        if stands_at(order, v, i) {
+            return i;
+        }
+        i += 1;
+    }
+    i
+}
+
+// The process of an order position, or the number of processes past the last one's end.
+pub fn process_of_position(lengths: &[u16; 64], processes: usize, i: usize) -> usize
+    requires { ⌜ processes ≤ 64 ⌝ }
+    ensures { λ r. ⌜ r ≡ process-at (now (lengths .entry)) processes i ⌝ }
+{
+    let mut end: usize = 0;
+    let mut p: usize = 0;
+    while p < processes {
+        end += length_at(lengths, p) as usize;
+        if i < end {
+            return p;
+        }
+        p += 1;
+    }
+    p
+}
+
+// The process of a node.
+pub fn home_of_node<'a>(
+    order: &'a [u16; 64],
+    lengths: &'a [u16; 64],
+    nodes: usize,
+    processes: usize,
+    v: usize,
+) -> usize
+    requires { ⌜ (nodes ≤ 64) × (processes ≤ 64) ⌝ }
+    ensures { λ r. ⌜ r ≡ home-of (now (order .entry)) (now (lengths .entry)) nodes processes v ⌝ }
+{
+    let i = position_of_node(order, nodes, v);
+    process_of_position(lengths, processes, i)
+}
+
+// The process of each node, 0 past the count.
+pub fn homes<'a>(
+    order: &'a [u16; 64],
+    lengths: &'a [u16; 64],
+    nodes: usize,
+    processes: usize,
+) -> [u16; 64]
+    requires { ⌜ (nodes ≤ 64) × (processes ≤ 64) ⌝ }
+    ensures { λ r. ⌜ r ≡ padded (home-of (now (order .entry)) (now (lengths .entry)) nodes processes) 64 nodes ⌝ }
+{
+    let mut table: [u16; 64] = [0; 64];
+    let mut v: usize = 0;
+    while v < nodes {
+        table[v] = home_of_node(order, lengths, nodes, processes, v) as u16;
+        v += 1;
+    }
+    table
+}
+
+// An edge's ends are in different processes.
+pub fn synchronising(homes: &[u16; 64], source: usize, destination: usize) -> bool
+    requires { ⌜ (source < 64) × (destination < 64) ⌝ }
+    ensures { λ r. ⌜ r ≡ different (now (homes .entry)) source destination ⌝ }
+{
+    if homes[source] == homes[destination] {
+        false
+    } else {
+        true
+    }
+}
+
+// Its Q is counter 0's sum and at least 1.
+fn q_fits(plan: Plan) -> bool
+    requires { ⌜ CountsFit plan ⌝ }
+    ensures { λ r. ⌜ r ≡ q-fits plan ⌝ }
+{
+    let counter = plan.counter;
+    let increment = plan.increment;
+    let sum = counter_sum(&counter, &increment, plan.nodes as usize, 0);
+    let q = plan.q;
+    if sum == q { 1 <= q } else { false }
+}
+
+// Test 8 passes, and what comes after it.
+fn edges_fit(plan: Plan) -> bool
+    requires { ⌜ CountsFit plan ⌝ }
+    ensures { λ r. ⌜ r ≡ edges-fit plan ⌝ }
+{
+    let source = plan.source;
+    let destination = plan.destination;
+    let tokens = plan.tokens;
+    let edges = plan.edges as usize;
+    if first_bad_edge(&source, &destination, &tokens, plan.nodes as usize, edges) < edges {
+        return false;
+    }
+    q_fits(plan)
+}
+
+// Test 7 passes, and what comes after it.
+fn nodes_fit(plan: Plan) -> bool
+    requires { ⌜ CountsFit plan ⌝ }
+    ensures { λ r. ⌜ r ≡ nodes-fit plan ⌝ }
+{
+    let counter = plan.counter;
+    let increment = plan.increment;
+    let nodes = plan.nodes as usize;
+    if first_bad_node(&counter, &increment, plan.counters as usize, nodes) < nodes {
+        return false;
+    }
+    edges_fit(plan)
+}
+
+// Test 6 passes, and what comes after it.
+fn order_fits(plan: Plan) -> bool
+    requires { ⌜ CountsFit plan ⌝ }
+    ensures { λ r. ⌜ r ≡ order-fits plan ⌝ }
+{
+    let order = plan.order;
+    let nodes = plan.nodes as usize;
+    if first_bad_order(&order, nodes) < nodes {
+        return false;
+    }
+    nodes_fit(plan)
+}
+
+// Test 5 passes, and what comes after it.
+fn lengths_fit(plan: Plan) -> bool
+    requires { ⌜ CountsFit plan ⌝ }
+    ensures { λ r. ⌜ r ≡ lengths-fit plan ⌝ }
+{
+    let lengths = plan.lengths;
+    let processes = plan.processes as usize;
+    if first_zero_length(&lengths, processes) < processes {
+        return false;
+    }
+    if lengths_sum(&lengths, processes) == plan.nodes as usize {
+        order_fits(plan)
+    } else {
+        false
+    }
+}
+
+// A plan value in shape: tests 3, 5, 6, 7 and 8 pass on it and its Q is counter 0's sum and at least 1.
+pub fn fits(plan: Plan) -> bool
+    ensures { λ r. ⌜ r ≡ plan-fits plan ⌝ }
+{
+    if counts_bad(
+        plan.nodes,
+        plan.processes,
+        plan.edges,
+        plan.counters,
+        plan.modulus,
+    ) {
+        return false;
+    }
+    lengths_fit(plan)
+}

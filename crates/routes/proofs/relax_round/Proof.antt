@@ -1,0 +1,49 @@
+-- `routes::relax_round` meets its contract. Assumes nothing.
+use borrow.Author.Needs.{needs}
+use native.Mathlib.Omega.{arith}
+use Prim.Native.Nat.{_-_}
+use Rattle.routes.specs.Relaxing.{Relaxing, relaxing-begin, relaxing-more, relaxing-over, relaxing-low, relaxing-fits, indices}
+use Rattle.routes.proofs.relax_round.Statement.{statement}
+use Rattle.routes.proofs.relax_round.Tie as tie
+
+abbrev Inv-loop : tie.InvT-loop
+Inv-loop source destination tokens edges out₀ drop₀ e₀ out drop e = Relaxing source destination tokens edges out₀ e out drop
+
+abbrev μ-loop : tie.MeasureT-loop
+μ-loop source destination tokens edges out₀ drop₀ e₀ out drop e = edges - e
+
+loop-again : tie.Need-loop-again Inv-loop μ-loop
+loop-again c =
+    let second = c .before .before in
+    let first = second .before .before in
+    let turn = first .before .before .before in
+    relaxing-more (turn .loop .inv) (turn .before .pre .1) (omega arith) (first .wide .ensures .0) (second .wide2 .ensures .0) (c .smaller .ensures)
+
+pub relax-round-spec : {M : Type 1} → statement M
+relax-round-spec =
+    tie.close
+    (tie.spec
+    Inv-loop
+    μ-loop
+    (λ c. search (needs, relaxing-begin))
+    (λ c. search needs)
+    (λ c. search needs)
+    (λ c κs. search needs)
+    (λ c. search needs)
+    (λ c. search needs)
+    (λ c κs. search needs)
+    (λ c. search needs)
+    (λ c. search (needs, indices))
+    (λ c. search needs)
+    (λ c. search (needs, indices))
+    (λ c. search needs)
+    (λ c. search needs)
+    (λ c κs. search (needs, relaxing-low))
+    (λ c. search needs)
+    (λ c. search (needs, indices))
+    (λ c. search needs)
+    (λ c. search (needs, relaxing-fits))
+    (λ c. search needs)
+    (λ c. search needs)
+    loop-again
+    (λ c. search (needs, relaxing-over)))
