@@ -1,0 +1,16 @@
+pub mod Conditions
+pub mod Faults
+pub mod Sound
+pub mod Tests
+pub mod ProcessFaults
+pub mod CounterFaults
+pub mod RouteFaults
+pub mod Least
+pub mod Exactly
+pub mod Connected
+pub mod Lent
+pub mod Positions
+pub mod Sums
+pub mod Bounds
+pub mod Reading
+pub mod Refusing

@@ -1,0 +1,22 @@
+-- `reader::quad_at` meets its contract. Assumes nothing.
+use borrow.Author.Needs.{needs}
+use Rattle.reader.specs.Image.{four-bytes}
+use Rattle.reader.proofs.quad_at.Statement.{statement}
+use Rattle.reader.proofs.quad_at.Tie as tie
+
+returns : tie.Need-returns
+unfolding four-bytes
+returns c = search needs
+
+pub quad-at-spec : {M : Type 1} → statement M
+quad-at-spec =
+    tie.close
+    (tie.spec
+    (λ c κs. search needs)
+    (λ c κs. search needs)
+    (λ c. search needs)
+    (λ c κs. search needs)
+    (λ c κs. search needs)
+    (λ c. search needs)
+    (λ c. search needs)
+    returns)

@@ -1,0 +1,15 @@
+pub mod Image
+pub mod Faults
+pub mod Layout
+pub mod Tests
+pub mod Chain
+pub mod Numbers
+pub mod HeaderFaults
+pub mod Decided
+pub mod Laid
+pub mod Tables
+pub mod Theorems
+pub mod Plans
+pub mod Starred
+pub mod Room
+pub mod Steps

@@ -1,0 +1,115 @@
+-- What is proved of the reader, for every list of bytes (01, "How much each promise says"; demand 2, first half). Statements, proofs cited.
+-- Assumes nothing.
+use mathlib.Core.Path.{_≡_, refl, sym, ap, _∙_, subst}
+use mathlib.Core.List.{List}
+use mathlib.Core.Logic.{_⊎_, inl, inr, _↔_}
+use Prim.Native.Nat.{ℕ, _≤_, _<_}
+use native.Mathlib.Omega.{arith}
+use native.Mathlib.Decide.{decLt}
+use Rattle.plan.specs.declared.Plan.{Plan}
+use Rattle.plan.specs.Value.{counter-sum, Synchronising}
+use Rattle.plan.specs.Faults.{InShape}
+use Rattle.conditions.specs.declared.Answer.{Answer}
+use Rattle.conditions.specs.declared.Answer.the-variants.{Accepted, Refused}
+use Rattle.conditions.specs.Conditions.{LeastModulus}
+use Rattle.conditions.specs.Sound.{Upheld, Sound}
+use Rattle.conditions.specs.Tests.{least-modulus}
+use Rattle.conditions.specs.Exactly.{q-some, conditions-exactly}
+use Rattle.conditions.specs.Least as conditions
+use Rattle.conditions.specs.Least.{least-alone}
+use Rattle.reader.specs.declared.Reading.{Reading}
+use Rattle.reader.specs.Image.{plan-of}
+use Rattle.reader.specs.Faults.{Fault}
+use Rattle.reader.specs.Layout.{Layout}
+use Rattle.reader.specs.Tests.{verdict, no-plan, plan-beside, reading-of}
+use Rattle.reader.specs.Chain.{LowestFault}
+use Rattle.reader.specs.Numbers.{few-faults, below-one}
+use Rattle.reader.specs.Decided.{accepted, outcome, not-accepted}
+use Rattle.reader.specs.Laid.{laid-tabled, laid-in-shape, clean-laid, upheld-clean, clean-upheld}
+
+-- the image is accepted
+abbrev pub IsAccepted : List ℕ → Type 0
+IsAccepted s = (q modulus least : ℕ) × (verdict s ≡ Accepted q modulus least)
+
+module _ (s : List ℕ) where
+  -- an accepted image is answered Q, N and the least modulus
+  pub accepted-numbers : (q modulus least : ℕ) → verdict s ≡ Accepted q modulus least
+      → (q ≡ counter-sum (plan-of s) 0) × (modulus ≡ plan-of s .modulus) × (least ≡ least-modulus (plan-of s))
+  accepted-numbers q modulus least e =
+      elim (outcome s .one-of) [
+        | inl a ↦ (cc, cc, cc)
+        | inr r ↦ absurd (not-accepted (r .0) (r .1) q modulus least (sym (r .2) ∙ e))
+      ]
+
+  -- "Every plan image … is answered": accepted, or refused with a number from 1 to 16 and a place
+  pub answered : IsAccepted s ⊎ ((k p : ℕ) × (verdict s ≡ Refused k p) × (1 ≤ k) × (k ≤ 16))
+  answered =
+      elim (outcome s .one-of) [
+        | inl a ↦ inl (_, _, _, a)
+        | inr r ↦
+            let l : LowestFault (Fault s) (r .0) (r .1) = outcome s .refused-lowest (r .0) (r .1) .0 (r .2) in
+            let high = few-faults s (r .0) (r .1) (l .here) in
+            inr (r .0, r .1, r .2, elim (decLt (r .0) 1) [ yes z ↦ absurd (below-one s (r .0) (r .1) z (l .here)) | no z ↦ omega arith ], omega arith)
+      ]
+
+  is-accepted : IsAccepted s → verdict s ≡ accepted s
+  is-accepted a =
+      elim (outcome s .one-of) [
+        | inl h ↦ h
+        | inr r ↦ absurd (not-accepted (r .0) (r .1) (a .0) (a .1) (a .2) (sym (r .2) ∙ a .3))
+      ]
+
+  -- "A plan is accepted exactly when its layout and Lamport's conditions C0 to C4, as document 01 lists them, hold."
+  pub accepted-exactly : IsAccepted s ↔ (Layout s × Upheld (plan-of s))
+  accepted-exactly = (
+    λ a. let c = outcome s .final-clean .0 (is-accepted a) in (clean-laid s (λ k p l. c k p), clean-upheld s c),
+    λ h. (_, _, _, outcome s .final-clean .1 (upheld-clean s (h .0) (h .1))),
+  )
+
+  -- "The lowest number that applies is given; within it the lowest place."
+  pub refused-lowest : (k p : ℕ) → (verdict s ≡ Refused k p) ↔ LowestFault (Fault s) k p
+  refused-lowest = outcome s .refused-lowest
+
+  -- "the least modulus: the smallest N that would pass 15 and 16 (Q where no edge synchronises)"
+  pub least-is-least : (q modulus least : ℕ) → verdict s ≡ Accepted q modulus least
+      → LeastModulus (plan-of s) least × (((e : ℕ) → Synchronising (plan-of s) e → ⊥) → least ≡ q)
+  least-is-least q modulus least e =
+      let n = accepted-numbers q modulus least e in
+      let h = accepted-exactly .0 (q, modulus, least, e) in
+      let t = laid-tabled s (h .0) in
+      let f = conditions-exactly (plan-of s) t .1 (h .1) in
+      let some = q-some (plan-of s) t (f .none-12) in
+      (
+        subst (LeastModulus (plan-of s)) (sym (n .2)) (conditions.least-is-least (plan-of s) t some (f .none-14)),
+        λ alone. n .2 ∙ least-alone (plan-of s) t some (f .none-14) alone ∙ sym (n .0),
+      )
+
+  -- an accepted plan is in shape, and sound
+  pub accepted-sound : IsAccepted s → Sound (plan-of s)
+  accepted-sound a =
+      let h = accepted-exactly .0 a in
+      let u : Upheld (plan-of s) = h .1 in
+      let t = laid-tabled s (h .0) in
+      let f = conditions-exactly (plan-of s) t .1 u in
+      record {
+        shape = laid-in-shape s (h .0) (q-some (plan-of s) t (f .none-12));
+        processes = u .processes;
+        c0 = u .c0;
+        c1 = u .c1;
+        c2 = u .c2;
+        c3 = u .c3;
+        c4 = u .c4;
+      }
+
+  -- "the plan's tables stand beside it, with 0 past the counts, and all 0 after a refusal"
+  pub nothing-of-the-plan : (k p : ℕ) → verdict s ≡ Refused k p → reading-of s .plan ≡ no-plan
+  unfolding reading-of plan-beside
+  nothing-of-the-plan k p e = ap (λ a. plan-beside a (plan-of s)) e
+
+  pub all-of-the-plan : IsAccepted s → reading-of s .plan ≡ plan-of s
+  unfolding reading-of plan-beside
+  all-of-the-plan a = ap (λ b. plan-beside b (plan-of s)) (a .3)
+
+  pub answer-is : reading-of s .answer ≡ verdict s
+  unfolding reading-of
+  answer-is = refl
