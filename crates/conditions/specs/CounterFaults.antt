@@ -76,11 +76,13 @@ module _ (pl : Plan) (t : Tabled pl) where
       from : Fault10 pl c → (c < pl .counters) × (bad-counter pl c ≡ true)
       from f =
           let d : home pl (f .one) ≢ home pl (f .other) =
-          λ e. f .differ (sym (home-is (f .one) (f .process-of-one) (f .one-in)) ∙ e ∙ home-is (f .other) (f .process-of-other) (f .other-in)) in
-          (f .known, elim (ℕ-discrete (home pl (f .one)) (home pl (leader c))) [
-            | no q ↦ any-from (strays pl c) (pl .nodes) (f .one) (f .one-lt) (strays-from c (f .one) (f .one-has) q)
-            | yes q ↦ any-from (strays pl c) (pl .nodes) (f .other) (f .other-lt) (strays-from c (f .other) (f .other-has) (λ e. d (q ∙ sym e)))
-          ])
+          λ e. f .differ (sym (home-is (f .one) (f .process-of-one) (f .one-in)) ∙ e ∙ home-is (f .other) (f .process-of-other) (f .other-in)) in (
+            f .known,
+            elim (ℕ-discrete (home pl (f .one)) (home pl (leader c))) [
+              | no q ↦ any-from (strays pl c) (pl .nodes) (f .one) (f .one-lt) (strays-from c (f .one) (f .one-has) q)
+              | yes q ↦ any-from (strays pl c) (pl .nodes) (f .other) (f .other-lt) (strays-from c (f .other) (f .other-has) (λ e. d (q ∙ sym e)))
+            ],
+          )
 
   pub c1-passes : ((c : ℕ) → Fault10 pl c → ⊥) → C1 pl
   unfolding C1
@@ -123,9 +125,11 @@ module _ (pl : Plan) (t : Tabled pl) where
       from : Fault11 pl v → (v < pl .nodes) × (bad-increment pl v ≡ true)
       from f =
           let e : ℕ = f .2 .0 in
-          let y : Synchronising pl e = f .2 .1 in
-          (f .0, both-intro _ _ (eq-eqb _ _ (f .1))
-          (any-from (sends pl v) (pl .edges) e (y .known) (both-intro _ _ (eq-eqb _ _ (f .2 .2)) (synchronises-exactly pl t e (y .known) .1 y))))
+          let y : Synchronising pl e = f .2 .1 in (
+            f .0,
+            both-intro _ _ (eq-eqb _ _ (f .1))
+                (any-from (sends pl v) (pl .edges) e (y .known) (both-intro _ _ (eq-eqb _ _ (f .2 .2)) (synchronises-exactly pl t e (y .known) .1 y))),
+          )
 
   pub c2-passes : ((v : ℕ) → Fault11 pl v → ⊥) → C2 pl
   unfolding C2 Fault11 graph-of graph-of-tables

@@ -86,8 +86,12 @@ module _ (pl : Plan) (t : Tabled pl) (some : 1 ≤ counter-sum pl 0) (none : (e 
             let below : suc (at (pl .tokens) e + k .0) ≤ m = omega (arith, greatest-at (asks pl) (pl .edges) e (y .known), asks-loop e y, k .2) in
             (k .0, k .1, omega (arith, mul-le-mul-left {m = suc (at (pl .tokens) e + k .0)} {n = m} (counter-sum pl 0) below));
         least = λ n h q x.
-            omega (arith, q .1, mul-le-mul-left {m = m} {n = q .0} (counter-sum pl 0)
-            (greatest-le (asks pl) (q .0) (pl .edges) (positive n (q .0) h (q .1)) (asks-le n (q .0) h (q .1) x)));
+            omega (
+              arith,
+              q .1,
+              mul-le-mul-left {m = m} {n = q .0} (counter-sum pl 0)
+                  (greatest-le (asks pl) (q .0) (pl .edges) (positive n (q .0) h (q .1)) (asks-le n (q .0) h (q .1) x)),
+            );
       }
 
   -- "Q where no edge synchronises"

@@ -89,18 +89,16 @@ module _ (pl : Plan) where
           | yes d ↦
               let c = closes d in
               let same : Edge (graph-of pl) (at (pl .order) position) (at (pl .order) (next-position (pl .lengths) (pl .processes) position)) (edge-tokens (pl .lengths) (pl .processes) position)
-                  ≡ Edge (graph-of pl) (node-at pl p j) (node-at pl p 0) 1 =
-              ap₂ (λ x y. Edge (graph-of pl) (node-at pl p j) (at (pl .order) x) y) (c .0) (c .1) in
-              (
+              ≡ Edge (graph-of pl) (node-at pl p j) (node-at pl p 0) 1 =
+              ap₂ (λ x y. Edge (graph-of pl) (node-at pl p j) (at (pl .order) x) y) (c .0) (c .1) in (
                 λ h. record { on = λ l. absurd (omega arith); closing = λ l. subst (λ X. X) same (edge-exactly _ _ _ .0 h) },
                 λ e. edge-exactly _ _ _ .1 (subst (λ X. X) (sym same) (e .closing d)),
               )
           | no d ↦
               let c = onward d in
               let same : Edge (graph-of pl) (at (pl .order) position) (at (pl .order) (next-position (pl .lengths) (pl .processes) position)) (edge-tokens (pl .lengths) (pl .processes) position)
-                  ≡ Edge (graph-of pl) (node-at pl p j) (node-at pl p (suc j)) 0 =
-              ap₂ (λ x y. Edge (graph-of pl) (node-at pl p j) (at (pl .order) x) y) (c .0) (c .1) in
-              (
+              ≡ Edge (graph-of pl) (node-at pl p j) (node-at pl p (suc j)) 0 =
+              ap₂ (λ x y. Edge (graph-of pl) (node-at pl p j) (at (pl .order) x) y) (c .0) (c .1) in (
                 λ h. record { on = λ l. subst (λ X. X) same (edge-exactly _ _ _ .0 h); closing = λ l. absurd (d l) },
                 λ e. edge-exactly _ _ _ .1 (subst (λ X. X) (sym same) (e .on (omega arith))),
               )

@@ -108,12 +108,14 @@ module _ (pl : Plan) (t : Tabled pl) where
           let i : at (pl .destination) e ≡ v = eqb-true _ _ (b .0) in
           let k = back-emptiest e (s .1) (omega (arith, loop-is e)) in
           let r = k .some in
-          let r₂ = subst (λ x. Route (graph-of pl) x (r .0) (at (pl .source) e)) i (r .1) in
-          (h .0, (
-            r .0 ++ (e ∷ []),
-            (route-append (graph-of pl) (r .0) (e ∷ []) v (at (pl .source) e) v r₂ (s .1, refl, i), omega (arith, length-append (r .0) (e ∷ []))),
-            omega (arith, tokens-on-append (at (pl .tokens)) (r .0) (e ∷ []), r .2, loop-is e),
-          ))
+          let r₂ = subst (λ x. Route (graph-of pl) x (r .0) (at (pl .source) e)) i (r .1) in (
+            h .0,
+            (
+              r .0 ++ (e ∷ []),
+              (route-append (graph-of pl) (r .0) (e ∷ []) v (at (pl .source) e) v r₂ (s .1, refl, i), omega (arith, length-append (r .0) (e ∷ []))),
+              omega (arith, tokens-on-append (at (pl .tokens)) (r .0) (e ∷ []), r .2, loop-is e),
+            ),
+          )
 
       from : Fault13 pl v → (v < pl .nodes) × (on-free-cycle pl v ≡ true)
       from f = (f .0, go (f .1 .0) (f .1 .1 .0) (f .1 .1 .1) (f .1 .2))
@@ -201,9 +203,11 @@ module _ (pl : Plan) (t : Tabled pl) where
 
       from : Fault16 pl e → (e < pl .edges) × (not-above-bound pl e ≡ true)
       from f =
-          let y = f .0 in
-          (y .known, both-intro _ _ (synchronises-exactly pl t e (y .known) .1 y)
-          (le-leb _ _ (subst (λ x. pl .modulus ≤ counter-sum pl 0 * x) (sym (loop-known e (f .1 .0) (y .known) (f .1 .1))) (f .1 .2))))
+          let y = f .0 in (
+            y .known,
+            both-intro _ _ (synchronises-exactly pl t e (y .known) .1 y)
+                (le-leb _ _ (subst (λ x. pl .modulus ≤ counter-sum pl 0 * x) (sym (loop-known e (f .1 .0) (y .known) (f .1 .1))) (f .1 .2))),
+          )
 
   pub c0-passes : ((v : ℕ) → Fault13 pl v → ⊥) → C0 pl
   unfolding C0 Fault13 EveryCycleHolds
@@ -227,11 +231,14 @@ module _ (pl : Plan) (t : Tabled pl) where
   c4-passes h none-14 none-15 none-16 = (
     multiple-passes h none-15,
     λ e y.
-        let k = loops-known none-14 e y in
-        (k .0, k .1, elim (decLt (counter-sum pl 0 * (at (pl .tokens) e + k .0)) (pl .modulus)) [
-          | yes p ↦ p
-          | no p ↦ absurd (none-16 e (y, (k .0, k .1, omega arith)))
-        ]),
+        let k = loops-known none-14 e y in (
+          k .0,
+          k .1,
+          elim (decLt (counter-sum pl 0 * (at (pl .tokens) e + k .0)) (pl .modulus)) [
+            | yes p ↦ p
+            | no p ↦ absurd (none-16 e (y, (k .0, k .1, omega arith)))
+          ],
+        ),
   )
 
   pub fault-14-clean : Exceeds pl (pl .modulus) → (e : ℕ) → Fault14 pl e → ⊥

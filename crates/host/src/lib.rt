@@ -2,7 +2,6 @@
 ghost use mathlib.Core.Path.{_≡_};
 ghost use Rattle.reader.specs.Tests.{verdict};
 ghost use Rattle.host.specs.Numbers.{numbers-of};
-
 use conditions::Answer;
 
 // The plan check's answer: the refusal's number (0: accepted), its place, and the least modulus (0 after a refusal).

@@ -9,6 +9,7 @@ use native.Mathlib.Decide.{decLt}
 use Rattle.plan.specs.declared.Plan.{Plan}
 use Rattle.plan.specs.Value.{counter-sum, Synchronising}
 use Rattle.plan.specs.Faults.{InShape}
+use Rattle.plan.specs.Unique.{one-answer}
 use Rattle.conditions.specs.declared.Answer.{Answer}
 use Rattle.conditions.specs.declared.Answer.the-variants.{Accepted, Refused}
 use Rattle.conditions.specs.Conditions.{LeastModulus}
@@ -78,8 +79,7 @@ module _ (s : List ℕ) where
       let h = accepted-exactly .0 (q, modulus, least, e) in
       let t = laid-tabled s (h .0) in
       let f = conditions-exactly (plan-of s) t .1 (h .1) in
-      let some = q-some (plan-of s) t (f .none-12) in
-      (
+      let some = q-some (plan-of s) t (f .none-12) in (
         subst (LeastModulus (plan-of s)) (sym (n .2)) (conditions.least-is-least (plan-of s) t some (f .none-14)),
         λ alone. n .2 ∙ least-alone (plan-of s) t some (f .none-14) alone ∙ sym (n .0),
       )
@@ -113,3 +113,7 @@ module _ (s : List ℕ) where
   pub answer-is : reading-of s .answer ≡ verdict s
   unfolding reading-of
   answer-is = refl
+
+-- the promise of `read` leaves room for one answer and one plan
+pub read-unique : (s : List ℕ) {r r′ : Reading} → r ≡ reading-of s → r′ ≡ reading-of s → r ≡ r′
+read-unique s = one-answer

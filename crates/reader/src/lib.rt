@@ -12,7 +12,6 @@ ghost use Rattle.reader.specs.Image.{two-bytes, four-bytes, entry, order
 ghost use Rattle.reader.specs.Room.{Room, Laid};
 ghost use Rattle.reader.specs.Tests.{good-format, good-offsets, good-later-offsets, from-5, from-6, no-plan, reading-of};
 ghost use Rattle.reader.specs.Steps.{with-plan, refusal-of};
-
 use conditions::Answer;
 use plan::Plan;
 

@@ -33,10 +33,12 @@ unfolding from-6
 judge-requires c κs = let e2 = c .before .before .before .before .before in
     let e1 = e2 .before .before .before .before .before in
     let s = e1 .before .before .before .before .before .before .before .before .before .before .before in
-    let pl = s .args .plan in
-    (tabled pl (passes-3 pl .0 (counts-pass pl (s .pre .0))) (s .pre .1) (passes (test-6 pl) (omega (arith, e1 .before .first-bad-order .ensures, e1 .if1 .left)))
-    (passes (test-7 pl) (omega (arith, e2 .before .first-bad-node .ensures, e2 .if2 .left)))
-    (passes (test-8 pl) (omega (arith, c .before .first-bad-edge .ensures, c .if3 .left))), s .pre .2)
+    let pl = s .args .plan in (
+      tabled pl (passes-3 pl .0 (counts-pass pl (s .pre .0))) (s .pre .1) (passes (test-6 pl) (omega (arith, e1 .before .first-bad-order .ensures, e1 .if1 .left)))
+          (passes (test-7 pl) (omega (arith, e2 .before .first-bad-node .ensures, e2 .if2 .left)))
+          (passes (test-8 pl) (omega (arith, c .before .first-bad-edge .ensures, c .if3 .left))),
+      s .pre .2,
+    )
 
 returns-4 : tie.Need-returns-4
 unfolding from-6

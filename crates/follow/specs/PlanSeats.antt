@@ -1,0 +1,120 @@
+-- The seats and the counters of an accepted plan.
+-- Assumes nothing.
+use mathlib.Core.Path.{_≡_, refl, sym, ap, _∙_, subst}
+use mathlib.Core.List.{List}
+use mathlib.Core.Logic.{_≢_}
+use Prim.Native.Nat.{ℕ, _+_, _*_, _<_}
+use borrow.Author.Tests.{eq-eqb, ne-eqb}
+use lib.Dec.{eqb}
+use Rattle.loops.specs.Choice.{at, if-true, if-false}
+use Rattle.net.specs.Graph.{Marking, Shaped, after, EveryCycleHolds}
+use Rattle.net.specs.Processes.{Seats, Synchronising as between-processes}
+use Rattle.net.specs.Tables.{graph-of-tables}
+use Rattle.net.specs.Seating.{seats-of}
+use Rattle.plan.specs.declared.Plan.{Plan}
+use Rattle.plan.specs.Value.{graph-of, node-at, HasProcesses, Sits, InProcess, Synchronising, share, counter-sum}
+use Rattle.plan.specs.Tests.{home, seat}
+use Rattle.plan.specs.Formed.{Tabled, formed, shaped as ends-are-nodes}
+use Rattle.plan.specs.Seating.{sits-unique}
+use Rattle.conditions.specs.Conditions.{RouteBack, C0, C1, C2, C3, C4, Multiple, Exceeds}
+use Rattle.conditions.specs.Sound.{Sound}
+use Rattle.follow.specs.Counters.{Counters}
+
+-- the tokens of the plan's marked graph after the firings of a list
+abbrev pub tokens-after : Plan → List ℕ → Marking
+tokens-after pl s = after (graph-of pl) (graph-of pl .tokens) s
+
+-- a node's own counter gets its increment
+pub share-own : (pl : Plan) (v : ℕ) → share (pl .counter) (pl .increment) (at (pl .counter) v) v ≡ at (pl .increment) v
+unfolding share
+share-own pl v = if-true (eqb (at (pl .counter) v) (at (pl .counter) v)) (at (pl .increment) v) 0 (eq-eqb (at (pl .counter) v) (at (pl .counter) v) refl)
+
+-- other counters get nothing
+pub share-none : (pl : Plan) (c v : ℕ) → at (pl .counter) v ≢ c → share (pl .counter) (pl .increment) c v ≡ 0
+unfolding share
+share-none pl c v d = if-false (eqb (at (pl .counter) v) c) (at (pl .increment) v) 0 (ne-eqb (at (pl .counter) v) c d)
+
+module _ (pl : Plan) (sound : Sound pl) where
+  -- what its tables hold
+  pub tables : Tabled pl
+  tables = formed pl (sound .shape) .tables
+
+  -- there is a node
+  pub some-node : 0 < graph-of pl .nodes
+  unfolding graph-of graph-of-tables
+  some-node = tables .counts .nodes-some
+
+  -- both ends of every edge are nodes
+  pub shaped : Shaped (graph-of pl)
+  shaped = ends-are-nodes pl tables
+
+  -- every cycle holds a token
+  pub every-cycle-holds : EveryCycleHolds (graph-of pl) (graph-of pl .tokens)
+  unfolding C0
+  every-cycle-holds = sound .c0
+
+  -- the process and the seat of each node
+  unfoldable pub seats : Seats (graph-of pl)
+  unfolding HasProcesses
+  seats = seats-of (graph-of pl) (pl .processes) (at (pl .lengths)) (node-at pl) (sound .processes)
+
+  -- where a node sits
+  pub sits : (v : ℕ) → v < graph-of pl .nodes → Sits pl v (seats .home v) (seats .seat v)
+  unfolding seats seats-of
+  sits v h = record { process-lt = seats .home-lt v h; seat-lt = seats .seat-lt v h; here = seats .node-of v h }
+
+  -- as the machine works it out
+  pub home-seat : (v : ℕ) → v < graph-of pl .nodes → (home pl v ≡ seats .home v) × (seat pl v ≡ seats .seat v)
+  home-seat v h = sits-unique pl tables (sits v h)
+
+  -- a node of process p has its seat there
+  pub sits-home : (v : ℕ) → v < graph-of pl .nodes → (p : ℕ) → InProcess pl v p → seats .home v ≡ p
+  sits-home v h p a = sym (home-seat v h .0) ∙ sits-unique pl tables (a .1) .0
+
+  -- an edge between processes is synchronising
+  pub synchronising : (e : ℕ) → e < graph-of pl .edges → between-processes (graph-of pl) seats e → Synchronising pl e
+  unfolding graph-of graph-of-tables
+  synchronising e h d =
+      record {
+        known = h;
+        process-of-source = seats .home (at (pl .source) e);
+        process-of-destination = seats .home (at (pl .destination) e);
+        source-in = (seats .seat (at (pl .source) e), sits (at (pl .source) e) (tables .source-lt e h));
+        destination-in = (seats .seat (at (pl .destination) e), sits (at (pl .destination) e) (tables .destination-lt e h));
+        differ = d;
+      }
+
+  -- and the other way round
+  pub between : (e : ℕ) → Synchronising pl e → between-processes (graph-of pl) seats e
+  unfolding graph-of graph-of-tables
+  between e s q =
+      s .differ
+      (sym (sits-home (at (pl .source) e) (tables .source-lt e (s .known)) (s .process-of-source) (s .source-in)) ∙ q
+      ∙ sits-home (at (pl .destination) e) (tables .destination-lt e (s .known)) (s .process-of-destination) (s .destination-in))
+
+  -- every counter's increments sum to Q
+  pub full : (c : ℕ) → c < pl .counters → counter-sum pl c ≡ pl .q
+  unfolding C3
+  full c h = sound .c3 c h .0 ∙ sym (sound .shape .q-is)
+
+  -- the plan's counters
+  unfoldable pub counters : Counters (graph-of pl) seats
+  unfolding graph-of graph-of-tables C1 C2 C4 Multiple Exceeds RouteBack counter-sum
+  counters =
+      record {
+        counters = pl .counters;
+        counter = at (pl .counter);
+        share = share (pl .counter) (pl .increment);
+        total = λ c. pl .q;
+        n = pl .modulus;
+        counter-lt = tables .counter-lt;
+        share-other = share-none pl;
+        c1 = λ u v hu hv e. sound .c1 u v hu hv e (seats .home u) (seats .home v) (seats .seat u, sits u hu) (seats .seat v, sits v hv);
+        c2 = λ e h d. subst (0 <_) (sym (share-own pl (at (pl .source) e))) (sound .c2 e (synchronising e h d));
+        c3 = λ v h. (full (at (pl .counter) v) (tables .counter-lt v h), sound .shape .q-some);
+        same-total = λ e h d. refl;
+        divides = λ v h. (sound .c4 .0 .0, sound .c4 .0 .1 ∙ ap (_* sound .c4 .0 .0) (sym (sound .shape .q-is)));
+        c4 = λ e h d.
+            let r = sound .c4 .1 e (synchronising e h d) in
+            (r .0, r .1, subst (λ q. q * (at (pl .tokens) e + r .0) < pl .modulus) (sym (sound .shape .q-is)) (r .2));
+      }

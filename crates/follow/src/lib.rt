@@ -1,0 +1,1 @@
+// No code: the machine beside the marked graph fired in the same order.

@@ -1,0 +1,14 @@
+-- `machine::begin` meets its contract. Assumes nothing.
+use borrow.Author.Needs.{needs}
+use Rattle.machine.specs.Same.{begun, begun-not}
+use Rattle.machine.proofs.begin.Statement.{statement}
+use Rattle.machine.proofs.begin.Tie as tie
+
+returns : tie.Need-returns
+returns c = search (needs, begun)
+
+returns-2 : tie.Need-returns-2
+returns-2 c = search (needs, begun-not)
+
+pub begin-spec : {M : Type 1} → statement M
+begin-spec = tie.close (tie.spec (λ c κs. search needs) (λ c κs. search needs) returns returns-2)

@@ -1,0 +1,32 @@
+-- `machine::raise` meets its contract. Assumes nothing.
+use borrow.Author.Needs.{needs}
+use native.Mathlib.Omega.{arith}
+use Rattle.machine.specs.Lists.{raised-in}
+use Rattle.machine.proofs.formula.raise.Statement.{statement}
+use Rattle.machine.proofs.formula.raise.Tie as tie
+
+add-counters : tie.Need-add-counters
+add-counters c = let h = rw (← c .before .before .before .wide .ensures) at (c .before .before .before .before .before .pre .value-lt) in omega arith
+
+returns : tie.Need-returns
+unfolding raised-in
+returns c = cc
+
+pub raise-spec : {M : Type 1} → statement M
+raise-spec =
+    tie.close
+    (tie.spec
+    (λ c. search needs)
+    (λ c. search needs)
+    (λ c κs. search needs)
+    (λ c. search needs)
+    (λ c. search needs)
+    (λ c. search needs)
+    (λ c. search needs)
+    (λ c κs. search needs)
+    (λ c. search needs)
+    add-counters
+    (λ c. search needs)
+    (λ c. search needs)
+    (λ c. search needs)
+    returns)

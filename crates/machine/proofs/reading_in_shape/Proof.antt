@@ -1,0 +1,58 @@
+-- `machine::reading_in_shape` meets its contract. Assumes nothing.
+use borrow.Author.Needs.{needs}
+use Rattle.loops.specs.Choice.{ifs}
+use Rattle.plan.specs.Formed.{formed}
+use Rattle.machine.specs.Calls.{reading-in-shape}
+use Rattle.machine.specs.InRange.{limits, below-it, known-edge, edge-ok}
+use Rattle.machine.specs.Same.{reading-turn, no-reading}
+use Rattle.machine.proofs.reading_in_shape.Statement.{statement}
+use Rattle.machine.proofs.reading_in_shape.Tie as tie
+
+returns : tie.Need-returns
+unfolding reading-in-shape
+returns c = search (needs, ifs, limits)
+
+crossing-requires : tie.Need-crossing-requires
+crossing-requires c κs = let start = c .before .before in
+    formed _ (start .pre .0) .tables
+
+array-read-if2 : tie.Need-array-read-if2
+array-read-if2 c = let at-if1 = c .before in
+    let at-short = at-if1 .before in
+    let start = at-short .before in
+    known-edge _ (start .pre .0) _ (below-it _ _ _ (at-short .short .ensures) (at-if1 .if1 .left))
+
+edge-reading-requires : tie.Need-edge-reading-requires
+edge-reading-requires c κs = let at-if1 = c .before .before .before .before in
+    let at-short = at-if1 .before in
+    let start = at-short .before in
+    edge-ok _ _ (start .pre .0) (start .pre .1) _ (below-it _ _ _ (at-short .short .ensures) (at-if1 .if1 .left))
+
+returns-2 : tie.Need-returns-2
+unfolding reading-in-shape
+returns-2 c = let at-if2 = c .before .before .before in
+    let at-crossing = at-if2 .before in
+    let at-if1 = at-crossing .before in
+    let at-short = at-if1 .before in
+    let start = at-short .before in
+    reading-turn _ _ _ _ _ _ (start .pre .0) (at-crossing .crossing .ensures) (at-short .short .ensures) (at-if1 .if1 .left) (c .edge-reading .ensures) (at-if2 .if2 .taken)
+
+returns-3 : tie.Need-returns-3
+unfolding reading-in-shape
+returns-3 c = let at-crossing = c .before in
+    let at-if1 = at-crossing .before in
+    let at-short = at-if1 .before in
+    let start = at-short .before in
+    no-reading _ _ _ 0 _ _ (start .pre .0) (at-crossing .crossing .ensures) (at-short .short .ensures) (at-if1 .if1 .left) (c .if2 .left)
+
+pub reading-in-shape-spec : {M : Type 1} → statement M
+reading-in-shape-spec =
+    tie.close
+    (tie.spec
+    (λ c κs. search needs)
+    returns
+    crossing-requires
+    array-read-if2
+    edge-reading-requires
+    returns-2
+    returns-3)

@@ -1,0 +1,36 @@
+-- `machine::marks_left` meets its contract. Assumes nothing.
+use borrow.Author.Needs.{needs}
+use Prim.Native.Nat.{_+_, _-_, _*_, _≤_}
+use mathlib.Core.Path.{_≡_}
+use Rattle.loops.specs.Choice.{at}
+use Rattle.loops.specs.Sum.{Sum, sums}
+use Rattle.machine.specs.Lists.{row-left}
+use Rattle.machine.proofs.rows.marks_left.Statement.{statement}
+use Rattle.machine.proofs.rows.marks_left.Tie as tie
+
+abbrev Inv-loop : tie.InvT-loop
+Inv-loop marks p base left₀ e₀ left e = Sum (λ k. at marks (512 * p + k)) 512 e left × (left ≤ 255 * e) × (base ≡ 512 * p)
+
+abbrev μ-loop : tie.MeasureT-loop
+μ-loop marks p base left₀ e₀ left e = 512 - e
+
+returns : tie.Need-returns Inv-loop μ-loop
+unfolding row-left
+returns c = search (needs, sums)
+
+pub marks-left-spec : {M : Type 1} → statement M
+marks-left-spec =
+    tie.close
+    (tie.spec
+    Inv-loop
+    μ-loop
+    (λ c. search needs)
+    (λ c. search (needs, sums))
+    (λ c. search needs)
+    (λ c. search needs)
+    (λ c κs. search needs)
+    (λ c. search needs)
+    (λ c. search needs)
+    (λ c. search needs)
+    (λ c. search (needs, sums))
+    returns)
