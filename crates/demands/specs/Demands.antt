@@ -4,11 +4,12 @@
 use mathlib.Core.Path.{_≡_, ap, _∙_, subst₂}
 use mathlib.Core.List.{List}
 use mathlib.Core.Logic.{_⊎_, _↔_}
-use Prim.Native.Nat.{ℕ, _+_, _≤_, _<_}
+use Prim.Native.Nat.{ℕ, _+_, _*_, _%_, _≤_, _<_}
 use Rattle.loops.specs.Choice.{at}
+use Rattle.loops.specs.Sum.{sum}
 use Rattle.net.specs.Graph.{Legal, Fireable, Emptiest, Linked, firings}
 use Rattle.plan.specs.declared.Plan.{Plan}
-use Rattle.plan.specs.Value.{graph-of}
+use Rattle.plan.specs.Value.{graph-of, InProcess, share}
 use Rattle.conditions.specs.declared.Answer.the-variants.{Refused}
 use Rattle.conditions.specs.Sound.{Upheld}
 use Rattle.reader.specs.declared.Reading.{Reading}
@@ -23,14 +24,16 @@ use Rattle.machine.specs.declared.State.{State}
 use Rattle.machine.specs.declared.Began.{Began}
 use Rattle.machine.specs.declared.Reply.{Reply}
 use Rattle.machine.specs.declared.Reply.the-variants.{Fired}
-use Rattle.machine.specs.States.{fresh, mark, next-node}
+use Rattle.machine.specs.States.{fresh, mark, next-node, StateInShape}
 use Rattle.machine.specs.Calls.{begin-run, marks-left}
 use Rattle.machine.specs.Runs.{Call, turn}
 use Rattle.machine.specs.Theorems as machine
 use Rattle.machine.specs.Theorems.{IsRefused}
 use Rattle.follow.specs.Theorems as follow
 use Rattle.follow.specs.Theorems.{state-after, answers-after, fired-after, tokens-now}
+use Rattle.follow.specs.StandsFor.{Follows}
 use Rattle.follow.specs.LookExact.{LookExact}
+use Rattle.follow.specs.FireExact.{FireMeans}
 use Rattle.follow.specs.DriveCalls.{YetToSee}
 use Rattle.follow.specs.Driven.{Driven}
 use Rattle.follow.specs.Reaches.{Reached}
@@ -72,6 +75,20 @@ module _ (s : List ℕ) (a : IsAccepted s) where
     pub follows : Legal (graph-of plan) (graph-of plan .tokens) (fired-after plan cs)
     follows = follow.follows plan (reader.accepted-sound s a) cs
 
+    -- positions, open flags, counters and marks stand for it: a process's position is its firings in that round; an open process's unmarked
+    -- synchronising in-edge of its next node holds a token; marks lie only on synchronising in-edges of that node
+    pub stands : Follows plan (reader.accepted-sound s a) (state-after plan cs) (fired-after plan cs)
+    stands = follow.stands plan (reader.accepted-sound s a) cs
+
+    -- each counter is its increments times firings, modulo N
+    pub counters-are : (c : ℕ) → c < plan .counters
+        → at (state-after plan cs .counters) c ≡ sum (λ v. share (plan .counter) (plan .increment) c v * firings v (fired-after plan cs)) (plan .nodes) % plan .modulus
+    counters-are = follow.counters-are plan (reader.accepted-sound s a) cs
+
+    -- every state reached is in shape
+    pub shape-kept : StateInShape plan (state-after plan cs)
+    shape-kept = follow.shape-kept plan (reader.accepted-sound s a .shape) cs .0
+
     -- "a look at an edge still to be seen finds it exactly when Lamport's marked graph, fired in the same order, has a token there"
     pub look-exact : (c : Call) → c .code ≡ 1 → c .process < plan .processes → c .edge < 512 → mark (state-after plan cs) (c .process) (c .edge) ≡ 1
         → LookExact (tokens-now plan cs (c .edge)) (c .process) (turn plan (state-after plan cs) c)
@@ -82,6 +99,16 @@ module _ (s : List ℕ) (a : IsAccepted s) where
         → ((v : ℕ) × (turn plan (state-after plan cs) c .reply ≡ Fired v))
         ↔ ((c .process < plan .processes) × (at (state-after plan cs .opened) (c .process) ≡ 1) × (marks-left (state-after plan cs) (c .process) ≡ 0))
     fire-exact = follow.fire-exact plan (reader.accepted-sound s a) cs
+
+    -- and then its node is the process's next, and all its in-edges hold a token, process edges and chords included
+    pub fires-fireable : (c : Call) → c .code ≡ 2 → (v : ℕ) → turn plan (state-after plan cs) c .reply ≡ Fired v
+        → FireMeans plan (state-after plan cs) (tokens-now plan cs) (c .process) v
+    fires-fireable = follow.fires-fireable plan (reader.accepted-sound s a) cs
+
+    -- 01: "in a plan with a token on every cycle its token is there whenever its end node is next"
+    pub chord : (e p : ℕ) → e < plan .edges → InProcess plan (at (plan .source) e) p → InProcess plan (at (plan .destination) e) p
+        → at (plan .destination) e ≡ next-node plan (state-after plan cs) p → 0 < tokens-now plan cs e
+    chord = follow.chord plan (reader.accepted-sound s a) cs
 
     -- ---- demand 3
     -- "if a route leads from node m to node n, n has fired at most as often as m plus the starting tokens on the emptiest such route"
