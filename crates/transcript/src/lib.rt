@@ -1,0 +1,141 @@
+// The whole text that `planrun` prints for an input: the first line, a line for each call, `cut`; or `too long`.
+ghost use mathlib.Core.Path.{_≡_};
+ghost use Prim.Native.Nat.{_+_, _<_, _≤_};
+ghost use lib.ListN.{length};
+ghost use Rattle.plan.specs.Faults.{InShape};
+ghost use Rattle.reader.specs.Image.{two-bytes, four-bytes};
+ghost use Rattle.machine.specs.States.{fresh};
+ghost use Rattle.transcript.specs.Text.{calls-text, image-length, run-text, text-of};
+ghost use Rattle.transcript.specs.Writing.{Put};
+ghost use Rattle.transcript.specs.Running.{cut-if};
+ghost use Rattle.transcript.specs.Printing.{Answers};
+use conditions::Answer;
+use plan::Plan;
+
+mod lines;
+mod text;
+
+// What `transcript` answers: the length of the text that it wrote, or the length that the buffer is too short for.
+pub enum Printed {
+    Whole { length: usize },
+    TooShort { needed: usize },
+}
+
+// A byte of the input, wide enough to be a call's number.
+fn wide(byte: u8) -> u32
+    ensures { λ r. ⌜ (r ≡ byte) × (r < 256) ⌝ }
+{
+    byte as u32
+}
+
+// The number of two bytes at a place, the lower byte first.
+fn pair_at(bytes: &[u8], place: usize) -> u32
+    requires { ⌜ place + 1 < length (now bytes) ⌝ }
+    ensures { λ r. ⌜ (r ≡ two-bytes (now (bytes .entry)) place) × (r < 65536) ⌝ }
+{
+    wide(bytes[place]) + 256 * wide(bytes[place + 1])
+}
+
+// T, the total field.
+fn total_field(input: &[u8]) -> usize
+    requires { ⌜ 36 ≤ length (now input) ⌝ }
+    ensures { λ r. ⌜ r ≡ four-bytes (now (input .entry)) 32 ⌝ }
+{
+    let total = pair_at(input, 32) + 65536 * pair_at(input, 34);
+    total as usize
+}
+
+// The image is the first T bytes; the whole input where T is missing, below 36 or beyond the input.
+fn image_length(input: &[u8]) -> usize
+    ensures { λ r. ⌜ (r ≡ image-length (now (input .entry))) × (r ≤ length (now (input .entry))) ⌝ }
+{
+    if input.len() < 36 {
+        return input.len();
+    }
+    let total = total_field(input);
+    if total < 36 {
+        return input.len();
+    }
+    if input.len() < total {
+        return input.len();
+    }
+    total
+}
+
+// One to three bytes left over print `cut`.
+fn put_left_over(out: &mut [u8], place: usize, left: usize) -> usize
+    requires { ⌜ place < 1000000 ⌝ }
+    ensures { λ r. ⌜ Put (now (out .entry)) place (cut-if left) (now (out .exit)) r × (r ≤ place + 4) ⌝ }
+{
+    if left == 0 {
+        return place;
+    }
+    text::put_word(out, place, b"cut\n")
+}
+
+// The calls of four bytes: code, process, edge (two bytes). The run begins from an accepted plan; each call keeps the shape, so none is tested.
+fn put_calls(plan: Plan, calls: &[u8], out: &mut [u8], place: usize) -> usize
+    requires { ⌜ InShape plan × (length (now calls) ≤ 65536) × (place ≤ 38) ⌝ }
+    ensures { λ r. ⌜ Put (now (out .entry)) place (calls-text plan fresh 0 (now (calls .entry))) (now (out .exit)) r × (r ≤ 409642) ⌝ }
+{
+    let began = machine::begin(plan);
+    let mut state = began.state;
+    let mut next = place;
+    let mut index: u32 = 0;
+    let mut i: usize = 0;
+    while i + 4 <= calls.len() {
+        let turned = machine::step_in_shape(
+            plan,
+            state,
+            wide(calls[i]),
+            wide(calls[i + 1]),
+            pair_at(calls, i + 2),
+        );
+        let reply = turned.reply;
+        next = lines::put_line(out, next, index, reply);
+        state = turned.state;
+        index += 1;
+        i += 4;
+    }
+    put_left_over(out, next, calls.len() - i)
+}
+
+// The text of an input that is not too long: `plan` Q N least and the calls, or `refused` number place and then nothing more.
+fn put_run(input: &[u8], out: &mut [u8]) -> usize
+    requires { ⌜ length (now input) ≤ 65536 ⌝ }
+    ensures { λ r. ⌜ Put (now (out .entry)) 0 (run-text (now (input .entry))) (now (out .exit)) r × (r ≤ 409642) ⌝ }
+{
+    let end = image_length(input);
+    let reading = reader::read(&input[..end]);
+    let answer = reading.answer;
+    let plan = reading.plan;
+    let Answer::Accepted { q, modulus, least } = answer else {
+        return lines::put_refusal(out, answer);
+    };
+    let next = lines::put_plan_line(out, q, modulus, least);
+    put_calls(plan, &input[end..], out, next)
+}
+
+// The text: with more than 65,536 bytes `too long` only.
+fn put_text(input: &[u8], out: &mut [u8]) -> usize
+    ensures { λ r. ⌜ Put (now (out .entry)) 0 (text-of (now (input .entry))) (now (out .exit)) r × (r ≤ 409642) ⌝ }
+{
+    if 65536 < input.len() {
+        return text::put_word(out, 0, b"too long\n");
+    }
+    put_run(input, out)
+}
+
+// Writes the whole text and answers its length; what lies past it stays. It is counted first, in a buffer without room: where `out` is
+// shorter than the text nothing is written.
+pub fn transcript(input: &[u8], out: &mut [u8]) -> Printed
+    ensures { λ r. ⌜ Answers (now (input .entry)) (now (out .entry)) (now (out .exit)) r ⌝ }
+{
+    let mut no_room: [u8; 0] = [];
+    let length = put_text(input, &mut no_room);
+    if out.len() < length {
+        return Printed::TooShort { needed: length };
+    }
+    put_text(input, out);
+    Printed::Whole { length }
+}
