@@ -7,9 +7,10 @@
    - `image` points to `length` bytes that can be read, and nothing writes to
      them before the call returns. Bytes of a mapped file are lent only where
      nobody can write or shorten that file meanwhile; else copy them first.
-   - With length 0 nothing is read, so `image` may then be anything, NULL too:
-     an empty slice may have a null pointer in Rattle. The answer is 1 at 0.
-     NULL with another length is a fault of the caller.
+   - With length 0 nothing is read, and `image` may be anything, NULL too:
+     the kit's guide to the libraries says that an empty slice may have a null
+     or a dangling pointer, and the length is tested before any byte is read.
+     The answer is 1 at 0. NULL with another length is a fault of the caller.
    - The stack has room for the call (bench/README.md says how much).
 
    The call writes to no byte of the image. It keeps no state, takes no lock,
