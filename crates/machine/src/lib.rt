@@ -80,10 +80,9 @@ fn fresh_state() -> State
 fn refusal(number: u32, state: State) -> Turned
     ensures { λ r. ⌜ r ≡ refused number state ⌝ }
 {
-    let after = state;
     Turned {
         reply: Reply::Refused { number },
-        state: after,
+        state,
     }
 }
 
