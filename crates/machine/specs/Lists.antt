@@ -136,5 +136,3 @@ pub record RaiseOk (counter increment counters : List ℕ) (modulus v : ℕ) : T
   pub increment-most : at increment v ≤ 255
   pub modulus-most : modulus ≤ 2000000000
   pub value-lt : at counters (at counter v) < modulus
-
--- x
