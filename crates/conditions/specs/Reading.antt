@@ -1,4 +1,5 @@
--- The tests over lent tables, read from a plan value's tables, its nodes' processes and its edges' loop sums, are the tests over the plan.
+-- The tests over lent tables are the tests over the plan where the tables are the plan's, those of its nodes' processes, of its
+-- synchronising edges and of its loop sums among them.
 -- Assumes nothing.
 use Prim.Native.Nat.{ℕ, zero, suc, _*_, _%_, _<_, _≤_, max}
 use native.Mathlib.Decide.{decLt}
@@ -8,7 +9,7 @@ use mathlib.Core.List.{List}
 use mathlib.Core.Bool.{Bool, true, false, not}
 use borrow.Author.Tests.{lt-ltb, le-ltb, eqb-false}
 use lib.Dec.{eqb, leb}
-use Rattle.loops.specs.Choice.{at, if, if-false, both, either-false}
+use Rattle.loops.specs.Choice.{at, if, if-false, both, either-false, one-if}
 use Rattle.loops.specs.First.{first, first-same, first-none}
 use Rattle.loops.specs.Any.{any-same, any-all}
 use Rattle.loops.specs.Fold.{fold}
@@ -17,21 +18,31 @@ use Rattle.plan.specs.declared.Plan.{Plan}
 use Rattle.plan.specs.Value.{counter-sum}
 use Rattle.plan.specs.Tests.{home, different, synchronises}
 use Rattle.plan.specs.Formed.{Tabled, counter-sum-most}
-use Rattle.plan.specs.Seating.{home-table, home-table-at}
+use Rattle.plan.specs.Seating.{home-table, home-table-at, different-is}
+use Rattle.routes.specs.Rows.{no-route}
 use Rattle.routes.specs.Relaxing.{EndsInRow}
 use Rattle.routes.specs.Settling.{row-most}
 use Rattle.conditions.specs.Tests.{has-counter, bad-position, strays, bad-counter, sends, bad-increment, bad-sum, loop-sum, closes-free, on-free-cycle, no-way-back, not-multiple, not-above-bound, asks, least-modulus}
-use Rattle.conditions.specs.Lent.{lacks-edge, strays-in, bad-counter-in, crosses, sends-in, bad-increment-in, bad-sum-in, loop-sum-in, closes-free-in, on-free-cycle-in, no-way-back-in, not-above-in, asks-in, most-asked, Small}
-
--- the loop sums of the edges as a table, 0 past the count
-abbrev pub sum-table : Plan → List ℕ
-sum-table pl = padded (loop-sum-in (pl .source) (pl .destination) (pl .tokens) (pl .edges)) 512 (pl .edges)
+use Rattle.conditions.specs.Lent.{lacks-edge, strays-in, bad-counter-in, crosses, sends-in, bad-increment-in, bad-sum-in, loop-sum-in, closes-free-in, on-free-cycle-in, no-way-back-in, not-above-in, asks-in, most-asked, sum-table, crossing-table, Small}
 
 -- "not" as a choice
 if-not : (t : Bool) → if t false true ≡ not t
 unfolding if
 if-not true = refl
 if-not false = refl
+
+-- 1 is the choice that is 1
+one-is : (t : Bool) → eqb (one-if t) 1 ≡ t
+unfolding one-if if
+one-is true = refl
+one-is false = refl
+
+both-swapped : (a b : Bool) → both a b ≡ both b a
+unfolding both if
+both-swapped true true = refl
+both-swapped true false = refl
+both-swapped false true = refl
+both-swapped false false = refl
 
 module _ (pl : Plan) (t : Tabled pl) where
   -- both ends of an edge have an entry in a table of the nodes
@@ -43,19 +54,18 @@ module _ (pl : Plan) (t : Tabled pl) where
       }
 
   -- number 9
-  pub lowest-9 :
-      first (lacks-edge (pl .source) (pl .destination) (pl .tokens) (pl .edges) (pl .order) (pl .lengths) (pl .processes)) (pl .nodes)
-      ≡ first (bad-position pl) (pl .nodes)
+  pub lowest-9 : {place : ℕ}
+      → place ≡ first (lacks-edge (pl .source) (pl .destination) (pl .tokens) (pl .edges) (pl .order) (pl .lengths) (pl .processes)) (pl .nodes)
+      → place ≡ first (bad-position pl) (pl .nodes)
   unfolding lacks-edge bad-position
-  lowest-9 = refl
+  lowest-9 p = p
 
   module _ (homes : List ℕ) (h : homes ≡ home-table pl) where
+    pub crossing-known : {crossing : List ℕ} → crossing ≡ padded (crosses homes (pl .source) (pl .destination)) 512 (pl .edges) → crossing ≡ crossing-table pl
+    crossing-known p = p ∙ ap (λ x. padded (crosses x (pl .source) (pl .destination)) 512 (pl .edges)) h
+
     home-at : (v : ℕ) → v < pl .nodes → at homes v ≡ home pl v
     home-at v l = ap (λ x. at x v) h ∙ home-table-at pl t v l
-
-    crosses-is : (e : ℕ) → e < pl .edges → crosses homes (pl .source) (pl .destination) e ≡ synchronises pl e
-    unfolding crosses different synchronises
-    crosses-is e l = rw (home-at (at (pl .source) e) (t .source-lt e l), home-at (at (pl .destination) e) (t .destination-lt e l))
 
     -- number 10
     strays-is : (f c v : ℕ) → f < pl .nodes → v < pl .nodes
@@ -73,16 +83,26 @@ module _ (pl : Plan) (t : Tabled pl) where
               (sym (any-all (strays pl c) (pl .nodes) (λ v l. if-false _ _ _ (first-none (has-counter (pl .counter) c) (pl .nodes) v (omega arith) l))))
         ]
 
-    pub lowest-10 : first (bad-counter-in homes (pl .counter) (pl .nodes)) (pl .counters) ≡ first (bad-counter pl) (pl .counters)
-    lowest-10 = first-same _ _ (pl .counters) (λ c l. bad-counter-is c)
+    pub lowest-10 : {place : ℕ} → place ≡ first (bad-counter-in homes (pl .counter) (pl .nodes)) (pl .counters) → place ≡ first (bad-counter pl) (pl .counters)
+    lowest-10 p = p ∙ first-same _ _ (pl .counters) (λ c l. bad-counter-is c)
+
+  module _ (crossing : List ℕ) (c : crossing ≡ crossing-table pl) where
+    crossing-at : (e : ℕ) → e < pl .edges → eqb (at crossing e) 1 ≡ synchronises pl e
+    unfolding crosses
+    crossing-at e l =
+        rw (ap (λ x. at x e) c, padded-at (crosses (home-table pl) (pl .source) (pl .destination)) 512 (pl .edges) e l, different-is pl t e l)
+        (one-is (synchronises pl e))
 
     -- number 11
-    pub lowest-11 :
-        first (bad-increment-in homes (pl .source) (pl .destination) (pl .edges) (pl .increment)) (pl .nodes) ≡ first (bad-increment pl) (pl .nodes)
+    pub lowest-11 : {place : ℕ} → place ≡ first (bad-increment-in crossing (pl .source) (pl .edges) (pl .increment)) (pl .nodes)
+        → place ≡ first (bad-increment pl) (pl .nodes)
     unfolding bad-increment-in bad-increment sends-in sends
-    lowest-11 =
-        first-same _ _ (pl .nodes)
-        (λ v k. ap (both (eqb (at (pl .increment) v) 0)) (any-same _ _ (pl .edges) (λ e l. ap (both (eqb (at (pl .source) e) v)) (crosses-is e l))))
+    lowest-11 p =
+        p
+        ∙ first-same _ _ (pl .nodes)
+        (λ v k.
+        ap (both (eqb (at (pl .increment) v) 0))
+        (any-same _ _ (pl .edges) (λ e l. rw (crossing-at e l) (both-swapped (synchronises pl e) (eqb (at (pl .source) e) v)))))
 
   module _ (sums : List ℕ) (s : sums ≡ sum-table pl) where
     sum-at : (e : ℕ) → e < pl .edges → at sums e ≡ loop-sum pl e
@@ -110,10 +130,10 @@ module _ (pl : Plan) (t : Tabled pl) where
         ]
 
     -- number 13
-    pub lowest-13 : first (on-free-cycle-in (pl .destination) sums (pl .edges)) (pl .nodes) ≡ first (on-free-cycle pl) (pl .nodes)
+    pub lowest-13 : {place : ℕ} → place ≡ first (on-free-cycle-in (pl .destination) sums (pl .edges)) (pl .nodes) → place ≡ first (on-free-cycle pl) (pl .nodes)
     unfolding on-free-cycle-in on-free-cycle closes-free-in closes-free
-    lowest-13 =
-        first-same _ _ (pl .nodes)
+    lowest-13 p =
+        p ∙ first-same _ _ (pl .nodes)
         (λ v k. any-same _ _ (pl .edges) (λ e l. ap (λ x. both (eqb (at (pl .destination) e) v) (eqb x 0)) (sum-at e l)))
 
   module _ (is : pl .q ≡ counter-sum pl 0) where
@@ -121,9 +141,10 @@ module _ (pl : Plan) (t : Tabled pl) where
     q-most = omega (arith, counter-sum-most pl t 0)
 
     -- number 12
-    pub lowest-12 : first (bad-sum-in (pl .counter) (pl .increment) (pl .nodes) (pl .q)) (pl .counters) ≡ first (bad-sum pl) (pl .counters)
+    pub lowest-12 : {place : ℕ} → place ≡ first (bad-sum-in (pl .counter) (pl .increment) (pl .nodes) (pl .q)) (pl .counters)
+        → place ≡ first (bad-sum pl) (pl .counters)
     unfolding bad-sum-in bad-sum counter-sum
-    lowest-12 = ap (λ q. first (bad-sum-in (pl .counter) (pl .increment) (pl .nodes) q) (pl .counters)) is
+    lowest-12 p = p ∙ ap (λ q. first (bad-sum-in (pl .counter) (pl .increment) (pl .nodes) q) (pl .counters)) is
 
     -- a plan that passes it has Q at least 1
     pub q-some : pl .counters ≤ first (bad-sum pl) (pl .counters) → 1 ≤ pl .q
@@ -134,35 +155,36 @@ module _ (pl : Plan) (t : Tabled pl) where
         omega arith
 
     -- number 15
-    pub test-15 : not (eqb (pl .modulus % pl .q) 0) ≡ not-multiple pl
+    pub test-15 : {r : Bool} → r ≡ not (eqb (pl .modulus % pl .q) 0) → r ≡ not-multiple pl
     unfolding not-multiple
-    test-15 = ap (λ q. not (eqb (pl .modulus % q) 0)) is
+    test-15 p = p ∙ ap (λ q. not (eqb (pl .modulus % q) 0)) is
 
-  module _ (homes : List ℕ) (h : homes ≡ home-table pl) (sums : List ℕ) (s : sums ≡ sum-table pl) where
+  module _ (crossing : List ℕ) (c : crossing ≡ crossing-table pl) (sums : List ℕ) (s : sums ≡ sum-table pl) where
     -- number 14
-    pub lowest-14 : first (no-way-back-in homes (pl .source) (pl .destination) sums) (pl .edges) ≡ first (no-way-back pl) (pl .edges)
+    pub lowest-14 : {place : ℕ} → place ≡ first (no-way-back-in crossing sums) (pl .edges)
+        → place ≡ first (no-way-back pl) (pl .edges)
     unfolding no-way-back-in no-way-back
-    lowest-14 = first-same _ _ (pl .edges) (λ e l. rw (crosses-is homes h e l, sum-at sums s e l))
+    lowest-14 p = p ∙ first-same _ _ (pl .edges) (λ e l. rw (crossing-at crossing c e l, sum-at sums s e l) (both-swapped (leb no-route (loop-sum pl e)) (synchronises pl e)))
 
     module _ (is : pl .q ≡ counter-sum pl 0) where
       -- number 16
-      pub lowest-16 :
-          first (not-above-in homes (pl .source) (pl .destination) sums (pl .modulus) (pl .q)) (pl .edges) ≡ first (not-above-bound pl) (pl .edges)
+      pub lowest-16 : {place : ℕ} → place ≡ first (not-above-in crossing sums (pl .modulus) (pl .q)) (pl .edges)
+          → place ≡ first (not-above-bound pl) (pl .edges)
       unfolding not-above-in not-above-bound
-      lowest-16 =
-          first-same _ _ (pl .edges)
+      lowest-16 p =
+          p ∙ first-same _ _ (pl .edges)
           (λ e l.
-          rw (crosses-is homes h e l, sum-at sums s e l)
+          rw (crossing-at crossing c e l, sum-at sums s e l)
           (ap (λ q. both (synchronises pl e) (leb (pl .modulus) (q * loop-sum pl e))) is))
 
       -- the least modulus
-      pub least-is : pl .q * most-asked homes (pl .source) (pl .destination) sums (pl .edges) ≡ least-modulus pl
+      pub least-is : {least : ℕ} → least ≡ pl .q * most-asked crossing sums (pl .edges) → least ≡ least-modulus pl
       unfolding least-modulus most-asked asks asks-in fold
-      least-is =
-          ap (λ q. q * most-asked homes (pl .source) (pl .destination) sums (pl .edges)) is
+      least-is p =
+          p ∙ ap (λ q. q * most-asked crossing sums (pl .edges)) is
           ∙ ap (λ m. counter-sum pl 0 * m) (same (pl .edges) (omega arith))
         where
           same : (n : ℕ) → n ≤ pl .edges
-              → fold (λ e m. max m (asks-in homes (pl .source) (pl .destination) sums e)) 1 n ≡ fold (λ e m. max m (asks pl e)) 1 n
+              → fold (λ e m. max m (asks-in crossing sums e)) 1 n ≡ fold (λ e m. max m (asks pl e)) 1 n
           same zero l = refl
-          same (suc n) l = rw (same n (omega arith), crosses-is homes h n l, sum-at sums s n l)
+          same (suc n) l = rw (same n (omega arith), crossing-at crossing c n l, sum-at sums s n l)

@@ -24,16 +24,16 @@ pub record Entering (source destination tokens row : List ℕ) (v : ℕ) (sums :
 pub enter-begin : (source destination tokens row : List ℕ) (v : ℕ) (sums : List ℕ) (edges : ℕ) → Entering source destination tokens row v sums edges 0 sums
 enter-begin source destination tokens row v sums edges = record { passed = row-begin (entered source destination tokens row v sums) 0 sums edges }
 
--- the code's turn: s and d are the edge's ends
-pub enter-more : {source destination tokens row sums : List ℕ} {v edges e : ℕ} {x : List ℕ} {s d r : ℕ}
-    → Entering source destination tokens row v sums edges e x → e < edges → s ≡ at source e → d ≡ at destination e
-    → r ≡ if (eqb d v) (at tokens e + at row s) (at x e) → Entering source destination tokens row v sums edges (e + 1) (set x e r)
+-- the code's turn
+pub enter-more : {source destination tokens row sums : List ℕ} {v edges e : ℕ} {x : List ℕ} {through r : ℕ}
+    → Entering source destination tokens row v sums edges e x → e < edges → through ≡ at tokens e + at row (at source e)
+    → r ≡ if (eqb (at destination e) v) through (at x e) → Entering source destination tokens row v sums edges (e + 1) (set x e r)
 unfolding entered
-enter-more {source} {destination} {tokens} {row} {sums} {v} {e = e} {x} inv h p q r =
+enter-more {source} {destination} {tokens} {row} {sums} {v} {e = e} {x} inv h p r =
     let f = entered source destination tokens row v sums in
     let z : 0 + e ≡ e = omega arith in
     let kept : at x e ≡ at sums e = ap (λ l. at l e) (inv .passed .so-far) ∙ stored-other f 0 sums e e (λ j m y. omega arith) in
-    record { passed = rw z at (row-more (inv .passed) h (r ∙ rw (p, q, kept))) }
+    record { passed = rw z at (row-more (inv .passed) h (r ∙ rw (p, kept))) }
 
 pub enter-over : {source destination tokens row sums : List ℕ} {v edges e : ℕ} {x : List ℕ}
     → Entering source destination tokens row v sums edges e x → edges ≤ e → x ≡ stored (entered source destination tokens row v sums) 0 sums edges

@@ -2,7 +2,7 @@
 -- Assumes nothing.
 use Prim.Native.Nat.{ℕ, suc, _+_, _*_, _%_, max}
 use mathlib.Core.List.{List}
-use mathlib.Core.Bool.{Bool, true, false, not}
+use mathlib.Core.Bool.{Bool, not}
 use lib.Dec.{eqb, ltb, leb}
 use Rattle.loops.specs.Choice.{at, if, both, either}
 use Rattle.loops.specs.First.{first}
@@ -96,20 +96,31 @@ refuse-lowest number test bound next = if (ltb (first test bound) bound) (Refuse
 unfoldable pub refuse-if : ℕ → Bool → Answer → Answer
 refuse-if number test next = if test (Refused number 0) next
 
--- tests 13 to 16, then accepted with Q, N and the least modulus
+-- tests 15 and 16, then accepted with Q, N and the least modulus
+abbrev pub from-15 : Plan → Answer
+from-15 pl =
+    refuse-if 15 (not-multiple pl)
+    (refuse-lowest 16 (not-above-bound pl) (pl .edges)
+    (Accepted (counter-sum pl 0) (pl .modulus) (least-modulus pl)))
+
+-- tests 13 to 16
 unfoldable pub from-13 : Plan → Answer
 from-13 pl =
     refuse-lowest 13 (on-free-cycle pl) (pl .nodes)
     (refuse-lowest 14 (no-way-back pl) (pl .edges)
-    (refuse-if 15 (not-multiple pl)
-    (refuse-lowest 16 (not-above-bound pl) (pl .edges)
-    (Accepted (counter-sum pl 0) (pl .modulus) (least-modulus pl)))))
+    (from-15 pl))
+
+-- tests 11 to 16
+abbrev pub from-11 : Plan → Answer
+from-11 pl =
+    refuse-lowest 11 (bad-increment pl) (pl .nodes)
+    (refuse-lowest 12 (bad-sum pl) (pl .counters)
+    (from-13 pl))
+
+-- tests 10 to 16
+abbrev pub from-10 : Plan → Answer
+from-10 pl = refuse-lowest 10 (bad-counter pl) (pl .counters) (from-11 pl)
 
 -- tests 9 to 16 in 01's order
 unfoldable pub from-9 : Plan → Answer
-from-9 pl =
-    refuse-lowest 9 (bad-position pl) (pl .nodes)
-    (refuse-lowest 10 (bad-counter pl) (pl .counters)
-    (refuse-lowest 11 (bad-increment pl) (pl .nodes)
-    (refuse-lowest 12 (bad-sum pl) (pl .counters)
-    (from-13 pl))))
+from-9 pl = refuse-lowest 9 (bad-position pl) (pl .nodes) (from-10 pl)

@@ -5,18 +5,18 @@ ghost use mathlib.Core.Path.{_≡_};
 ghost use mathlib.Core.Bool.{not};
 ghost use Prim.Native.Nat.{_+_, _*_, _%_, _<_, _≤_, max};
 ghost use lib.Dec.{eqb};
-ghost use Rattle.loops.specs.Choice.{if};
+ghost use Rattle.loops.specs.Choice.{at, if};
 ghost use Rattle.loops.specs.First.{first};
 ghost use Rattle.loops.specs.Any.{any};
 ghost use Rattle.loops.specs.Row.{stored};
 ghost use Rattle.loops.specs.Table.{padded};
 ghost use Rattle.plan.specs.Value.{base, counter-sum};
 ghost use Rattle.plan.specs.Formed.{Tabled};
-ghost use Rattle.plan.specs.Seating.{home-table};
+ghost use Rattle.routes.specs.Rows.{no-route};
 ghost use Rattle.routes.specs.Relaxing.{Low, EndsInRow};
-ghost use Rattle.conditions.specs.Tests.{is-edge, is-last, next-position, edge-tokens, has-counter, from-13, from-9};
+ghost use Rattle.conditions.specs.Tests.{is-edge, is-last, next-position, edge-tokens, has-counter, from-15, from-13, from-11, from-10, from-9};
 ghost use Rattle.conditions.specs.Lent.{lacks-edge, strays-in, bad-counter-in, crosses, sends-in, bad-increment-in, bad-sum-in};
-ghost use Rattle.conditions.specs.Lent.{loop-sum-in, entered, closes-free-in, on-free-cycle-in, no-way-back-in, not-above-in, asks-in, most-asked, Small, Known};
+ghost use Rattle.conditions.specs.Lent.{loop-sum-in, entered, closes-free-in, on-free-cycle-in, no-way-back-in, not-above-in, asks-in, most-asked, sum-table, Known, Small, Crossed};
 
 // What the reader answers: Q, N and the least modulus, or a number and a place.
 pub enum Answer {
@@ -101,11 +101,8 @@ fn edge_tokens_of(lengths: &[u16; 64], processes: usize, i: usize) -> u16
     requires { ⌜ (processes ≤ 64) × (i < 64) × (i < base (now lengths) processes) ⌝ }
     ensures { λ r. ⌜ r ≡ edge-tokens (now (lengths .entry)) processes i ⌝ }
 {
-    if is_last_at(lengths, processes, i) {
-        1
-    } else {
-        0
-    }
+    let last = is_last_at(lengths, processes, i);
+    if last { 1 } else { 0 }
 }
 
 // The process edge from position i is missing or has wrong tokens.
@@ -249,53 +246,63 @@ fn first_bad_counter<'a>(
     c
 }
 
-// An edge is synchronising: its ends are in different processes.
-fn crosses_at<'a>(
+// 1 where an edge is synchronising, its ends in different processes, else 0.
+fn crossing_at<'a>(
     homes: &'a [u16; 64],
     source: &'a [u16; 512],
     destination: &'a [u16; 512],
     edges: usize,
     e: usize,
-) -> bool
+) -> u8
     requires { ⌜ (e < edges) × (edges ≤ 512) × EndsInRow (now source) (now destination) edges ⌝ }
     ensures { λ r. ⌜ r ≡ crosses (now (homes .entry)) (now (source .entry)) (now (destination .entry)) e ⌝ }
 {
-    plan::synchronising(homes, wide(source[e]), wide(destination[e]))
+    if plan::synchronising(homes, wide(source[e]), wide(destination[e])) {
+        1
+    } else {
+        0
+    }
 }
 
-// An edge is synchronising and leaves node v.
-fn sends_at<'a>(
+// 1 for each synchronising edge, 0 for the others and past the count.
+fn crossings<'a>(
     homes: &'a [u16; 64],
     source: &'a [u16; 512],
     destination: &'a [u16; 512],
     edges: usize,
-    v: usize,
-    e: usize,
-) -> bool
-    requires { ⌜ (e < edges) × (edges ≤ 512) × EndsInRow (now source) (now destination) edges ⌝ }
-    ensures { λ r. ⌜ r ≡ sends-in (now (homes .entry)) (now (source .entry)) (now (destination .entry)) v e ⌝ }
+) -> [u8; 512]
+    requires { ⌜ (edges ≤ 512) × EndsInRow (now source) (now destination) edges ⌝ }
+    ensures { λ r. ⌜ r ≡ padded (crosses (now (homes .entry)) (now (source .entry)) (now (destination .entry))) 512 edges ⌝ }
 {
-    if wide(source[e]) == v {
-        crosses_at(homes, source, destination, edges, e)
+    let mut table: [u8; 512] = [0; 512];
+    let mut e: usize = 0;
+    while e < edges {
+        table[e] = crossing_at(homes, source, destination, edges, e);
+        e += 1;
+    }
+    table
+}
+
+// An edge is synchronising and leaves node v.
+fn sends_at<'a>(crossing: &'a [u8; 512], source: &'a [u16; 512], v: usize, e: usize) -> bool
+    requires { ⌜ e < 512 ⌝ }
+    ensures { λ r. ⌜ r ≡ sends-in (now (crossing .entry)) (now (source .entry)) v e ⌝ }
+{
+    if crossing[e] == 1 {
+        wide(source[e]) == v
     } else {
         false
     }
 }
 
 // A synchronising edge leaves node v.
-fn any_sends<'a>(
-    homes: &'a [u16; 64],
-    source: &'a [u16; 512],
-    destination: &'a [u16; 512],
-    edges: usize,
-    v: usize,
-) -> bool
-    requires { ⌜ (edges ≤ 512) × EndsInRow (now source) (now destination) edges ⌝ }
-    ensures { λ r. ⌜ r ≡ any (sends-in (now (homes .entry)) (now (source .entry)) (now (destination .entry)) v) edges ⌝ }
+fn any_sends<'a>(crossing: &'a [u8; 512], source: &'a [u16; 512], edges: usize, v: usize) -> bool
+    requires { ⌜ edges ≤ 512 ⌝ }
+    ensures { λ r. ⌜ r ≡ any (sends-in (now (crossing .entry)) (now (source .entry)) v) edges ⌝ }
 {
     let mut e: usize = 0;
     while e < edges {
-        if sends_at(homes, source, destination, edges, v, e) {
+        if sends_at(crossing, source, v, e) {
             return true;
         }
         e += 1;
@@ -305,18 +312,17 @@ fn any_sends<'a>(
 
 // C2 broken at node v: it has a synchronising out-edge and increment 0.
 fn bad_increment_at<'a>(
-    homes: &'a [u16; 64],
+    crossing: &'a [u8; 512],
     source: &'a [u16; 512],
-    destination: &'a [u16; 512],
     edges: usize,
     increment: &'a [u16; 64],
     v: usize,
 ) -> bool
-    requires { ⌜ (v < 64) × (edges ≤ 512) × EndsInRow (now source) (now destination) edges ⌝ }
-    ensures { λ r. ⌜ r ≡ bad-increment-in (now (homes .entry)) (now (source .entry)) (now (destination .entry)) edges (now (increment .entry)) v ⌝ }
+    requires { ⌜ (v < 64) × (edges ≤ 512) ⌝ }
+    ensures { λ r. ⌜ r ≡ bad-increment-in (now (crossing .entry)) (now (source .entry)) edges (now (increment .entry)) v ⌝ }
 {
     if increment[v] == 0 {
-        any_sends(homes, source, destination, edges, v)
+        any_sends(crossing, source, edges, v)
     } else {
         false
     }
@@ -324,19 +330,18 @@ fn bad_increment_at<'a>(
 
 // Number 11: the lowest node at which C2 is broken, or the number of nodes.
 fn first_bad_increment<'a>(
-    homes: &'a [u16; 64],
+    crossing: &'a [u8; 512],
     source: &'a [u16; 512],
-    destination: &'a [u16; 512],
     edges: usize,
     increment: &'a [u16; 64],
     nodes: usize,
 ) -> usize
-    requires { ⌜ (nodes ≤ 64) × (edges ≤ 512) × EndsInRow (now source) (now destination) edges ⌝ }
-    ensures { λ r. ⌜ r ≡ first (bad-increment-in (now (homes .entry)) (now (source .entry)) (now (destination .entry)) edges (now (increment .entry))) nodes ⌝ }
+    requires { ⌜ (nodes ≤ 64) × (edges ≤ 512) ⌝ }
+    ensures { λ r. ⌜ r ≡ first (bad-increment-in (now (crossing .entry)) (now (source .entry)) edges (now (increment .entry))) nodes ⌝ }
 {
     let mut v: usize = 0;
     while v < nodes {
-        if bad_increment_at(homes, source, destination, edges, increment, v) {
+        if bad_increment_at(crossing, source, edges, increment, v) {
             return v;
         }
         v += 1;
@@ -380,13 +385,34 @@ fn first_bad_sum<'a>(
     c
 }
 
-// An edge's own tokens and those of the route back where it ends in node v; otherwise the entry as it was.
-fn entry_of(tokens: u16, back: u32, destination: usize, v: usize, entry: u32) -> u32
-    requires { ⌜ back ≤ 100000 ⌝ }
-    ensures { λ r. ⌜ r ≡ if (eqb destination v) (tokens + back) entry ⌝ }
+// An edge's tokens and those of a route.
+fn joined(tokens: u16, back: u32) -> u32
+    requires { ⌜ back ≤ no-route ⌝ }
+    ensures { λ r. ⌜ r ≡ tokens + back ⌝ }
 {
-    if destination == v {
-        (tokens as u32) + back
+    (tokens as u32) + back
+}
+
+// An edge's tokens plus those on the emptiest route back, from the row of its end node.
+fn through_at<'a>(
+    row: &'a [u32; 64],
+    source: &'a [u16; 512],
+    tokens: &'a [u16; 512],
+    e: usize,
+) -> u32
+    requires { ⌜ (e < 512) × (at (now source) e < 64) × Low (now row) ⌝ }
+    ensures { λ r. ⌜ r ≡ at (now (tokens .entry)) e + at (now (row .entry)) (at (now (source .entry)) e) ⌝ }
+{
+    let s = wide(source[e]);
+    joined(tokens[e], row[s])
+}
+
+// The entry of an edge: its loop sum where it ends in node v, otherwise what was there.
+fn entry_of(destination: u16, v: usize, through: u32, entry: u32) -> u32
+    ensures { λ r. ⌜ r ≡ if (eqb destination v) through entry ⌝ }
+{
+    if wide(destination) == v {
+        through
     } else {
         entry
     }
@@ -407,8 +433,8 @@ fn enter_row<'a>(
 {
     let mut e: usize = 0;
     while e < edges {
-        let s = wide(source[e]);
-        sums[e] = entry_of(tokens[e], row[s], wide(destination[e]), v, sums[e]);
+        let through = through_at(row, source, tokens, e);
+        sums[e] = entry_of(destination[e], v, through, sums[e]);
         e += 1;
     }
 }
@@ -487,38 +513,25 @@ fn first_on_free_cycle<'a>(
 }
 
 // A synchronising edge without a route back.
-fn no_way_back_at<'a>(
-    homes: &'a [u16; 64],
-    source: &'a [u16; 512],
-    destination: &'a [u16; 512],
-    sums: &'a [u32; 512],
-    edges: usize,
-    e: usize,
-) -> bool
-    requires { ⌜ (e < edges) × (edges ≤ 512) × EndsInRow (now source) (now destination) edges ⌝ }
-    ensures { λ r. ⌜ r ≡ no-way-back-in (now (homes .entry)) (now (source .entry)) (now (destination .entry)) (now (sums .entry)) e ⌝ }
+fn no_way_back_at<'a>(crossing: &'a [u8; 512], sums: &'a [u32; 512], e: usize) -> bool
+    requires { ⌜ e < 512 ⌝ }
+    ensures { λ r. ⌜ r ≡ no-way-back-in (now (crossing .entry)) (now (sums .entry)) e ⌝ }
 {
-    if crosses_at(homes, source, destination, edges, e) {
-        NO_ROUTE <= sums[e]
+    if NO_ROUTE <= sums[e] {
+        crossing[e] == 1
     } else {
         false
     }
 }
 
 // Number 14: the lowest synchronising edge without a route back, or the number of edges.
-fn first_no_way_back<'a>(
-    homes: &'a [u16; 64],
-    source: &'a [u16; 512],
-    destination: &'a [u16; 512],
-    sums: &'a [u32; 512],
-    edges: usize,
-) -> usize
-    requires { ⌜ (edges ≤ 512) × EndsInRow (now source) (now destination) edges ⌝ }
-    ensures { λ r. ⌜ r ≡ first (no-way-back-in (now (homes .entry)) (now (source .entry)) (now (destination .entry)) (now (sums .entry))) edges ⌝ }
+fn first_no_way_back<'a>(crossing: &'a [u8; 512], sums: &'a [u32; 512], edges: usize) -> usize
+    requires { ⌜ edges ≤ 512 ⌝ }
+    ensures { λ r. ⌜ r ≡ first (no-way-back-in (now (crossing .entry)) (now (sums .entry))) edges ⌝ }
 {
     let mut e: usize = 0;
     while e < edges {
-        if no_way_back_at(homes, source, destination, sums, edges, e) {
+        if no_way_back_at(crossing, sums, e) {
             return e;
         }
         e += 1;
@@ -528,19 +541,16 @@ fn first_no_way_back<'a>(
 
 // A synchronising edge whose bound, Q times its loop sum, N does not exceed.
 fn not_above_at<'a>(
-    homes: &'a [u16; 64],
-    source: &'a [u16; 512],
-    destination: &'a [u16; 512],
+    crossing: &'a [u8; 512],
     sums: &'a [u32; 512],
-    edges: usize,
     modulus: u32,
     q: u32,
     e: usize,
 ) -> bool
-    requires { ⌜ (e < edges) × (edges ≤ 512) × EndsInRow (now source) (now destination) edges × (q ≤ 16320) × Small (now sums) ⌝ }
-    ensures { λ r. ⌜ r ≡ not-above-in (now (homes .entry)) (now (source .entry)) (now (destination .entry)) (now (sums .entry)) modulus q e ⌝ }
+    requires { ⌜ (e < 512) × (q ≤ 16320) × Small (now sums) ⌝ }
+    ensures { λ r. ⌜ r ≡ not-above-in (now (crossing .entry)) (now (sums .entry)) modulus q e ⌝ }
 {
-    if crosses_at(homes, source, destination, edges, e) {
+    if crossing[e] == 1 {
         modulus <= q * sums[e]
     } else {
         false
@@ -549,20 +559,18 @@ fn not_above_at<'a>(
 
 // Number 16: the lowest synchronising edge whose bound N does not exceed, or the number of edges.
 fn first_not_above<'a>(
-    homes: &'a [u16; 64],
-    source: &'a [u16; 512],
-    destination: &'a [u16; 512],
+    crossing: &'a [u8; 512],
     sums: &'a [u32; 512],
     edges: usize,
     modulus: u32,
     q: u32,
 ) -> usize
-    requires { ⌜ (edges ≤ 512) × EndsInRow (now source) (now destination) edges × (q ≤ 16320) × Small (now sums) ⌝ }
-    ensures { λ r. ⌜ r ≡ first (not-above-in (now (homes .entry)) (now (source .entry)) (now (destination .entry)) (now (sums .entry)) modulus q) edges ⌝ }
+    requires { ⌜ (edges ≤ 512) × (q ≤ 16320) × Small (now sums) ⌝ }
+    ensures { λ r. ⌜ r ≡ first (not-above-in (now (crossing .entry)) (now (sums .entry)) modulus q) edges ⌝ }
 {
     let mut e: usize = 0;
     while e < edges {
-        if not_above_at(homes, source, destination, sums, edges, modulus, q, e) {
+        if not_above_at(crossing, sums, modulus, q, e) {
             return e;
         }
         e += 1;
@@ -571,22 +579,11 @@ fn first_not_above<'a>(
 }
 
 // What an edge asks of the modulus, in sums of Q: more than its loop sum where it synchronises, else 1.
-fn asks_at<'a>(
-    homes: &'a [u16; 64],
-    source: &'a [u16; 512],
-    destination: &'a [u16; 512],
-    sums: &'a [u32; 512],
-    edges: usize,
-    e: usize,
-) -> u32
-    requires { ⌜ (e < edges) × (edges ≤ 512) × EndsInRow (now source) (now destination) edges × Small (now sums) ⌝ }
-    ensures { λ r. ⌜ (r ≡ asks-in (now (homes .entry)) (now (source .entry)) (now (destination .entry)) (now (sums .entry)) e) × (r ≤ 101001) ⌝ }
+fn asks_at<'a>(crossing: &'a [u8; 512], sums: &'a [u32; 512], e: usize) -> u32
+    requires { ⌜ (e < 512) × Small (now sums) ⌝ }
+    ensures { λ r. ⌜ (r ≡ asks-in (now (crossing .entry)) (now (sums .entry)) e) × (r ≤ 101001) ⌝ }
 {
-    if crosses_at(homes, source, destination, edges, e) {
-        sums[e] + 1
-    } else {
-        1
-    }
+    if crossing[e] == 1 { sums[e] + 1 } else { 1 }
 }
 
 // The greater of two numbers.
@@ -597,38 +594,25 @@ fn greater(a: u32, b: u32) -> u32
 }
 
 // The most that an edge asks of the modulus, in sums of Q.
-fn most_asked_of<'a>(
-    homes: &'a [u16; 64],
-    source: &'a [u16; 512],
-    destination: &'a [u16; 512],
-    sums: &'a [u32; 512],
-    edges: usize,
-) -> u32
-    requires { ⌜ (edges ≤ 512) × EndsInRow (now source) (now destination) edges × Small (now sums) ⌝ }
-    ensures { λ r. ⌜ (r ≡ most-asked (now (homes .entry)) (now (source .entry)) (now (destination .entry)) (now (sums .entry)) edges) × (r ≤ 101001) ⌝ }
+fn most_asked_of<'a>(crossing: &'a [u8; 512], sums: &'a [u32; 512], edges: usize) -> u32
+    requires { ⌜ (edges ≤ 512) × Small (now sums) ⌝ }
+    ensures { λ r. ⌜ (r ≡ most-asked (now (crossing .entry)) (now (sums .entry)) edges) × (r ≤ 101001) ⌝ }
 {
     let mut most: u32 = 1;
-    let mut e: usize = 0;
-    while e < edges {
-        most = greater(most, asks_at(homes, source, destination, sums, edges, e));
-        e += 1;
+    let mut edge: usize = 0;
+    while edge < edges {
+        most = greater(most, asks_at(crossing, sums, edge));
+        edge += 1;
     }
     most
 }
 
 // The least modulus: the smallest N that would pass 15 and 16.
-fn least_modulus<'a>(
-    homes: &'a [u16; 64],
-    source: &'a [u16; 512],
-    destination: &'a [u16; 512],
-    sums: &'a [u32; 512],
-    edges: usize,
-    q: u32,
-) -> u32
-    requires { ⌜ (edges ≤ 512) × EndsInRow (now source) (now destination) edges × (q ≤ 16320) × Small (now sums) ⌝ }
-    ensures { λ r. ⌜ r ≡ q * most-asked (now (homes .entry)) (now (source .entry)) (now (destination .entry)) (now (sums .entry)) edges ⌝ }
+fn least_modulus<'a>(crossing: &'a [u8; 512], sums: &'a [u32; 512], edges: usize, q: u32) -> u32
+    requires { ⌜ (edges ≤ 512) × (q ≤ 16320) × Small (now sums) ⌝ }
+    ensures { λ r. ⌜ r ≡ q * most-asked (now (crossing .entry)) (now (sums .entry)) edges ⌝ }
 {
-    q * most_asked_of(homes, source, destination, sums, edges)
+    q * most_asked_of(crossing, sums, edges)
 }
 
 // Turned down with a number at a place.
@@ -650,45 +634,78 @@ fn not_multiple_of(modulus: u32, q: u32) -> bool
     modulus % q != 0
 }
 
-// Tests 13 to 16, then accepted with Q, N and the least modulus; `homes` has the process of each node.
-fn from_13(plan: Plan, homes: [u16; 64]) -> Answer
-    requires { ⌜ Tabled plan × (homes ≡ home-table plan) × (plan .q ≡ counter-sum plan 0) × (1 ≤ plan .q) ⌝ }
-    ensures { λ r. ⌜ r ≡ from-13 plan ⌝ }
+// Tests 15 and 16, then accepted with Q, N and the least modulus.
+fn from_15(plan: Plan, crossing: [u8; 512], sums: [u32; 512]) -> Answer
+    requires { ⌜ Crossed plan crossing × (sums ≡ sum-table plan) × (1 ≤ plan .q) ⌝ }
+    ensures { λ r. ⌜ r ≡ from-15 plan ⌝ }
 {
-    let source = plan.source;
-    let destination = plan.destination;
-    let tokens = plan.tokens;
-    let nodes = plan.nodes as usize;
     let edges = plan.edges as usize;
-    let sums = loop_sums(&source, &destination, &tokens, nodes, edges);
-    let node = first_on_free_cycle(&destination, &sums, edges, nodes);
-    if node < nodes {
-        return refused(13, node);
-    }
-    let lost = first_no_way_back(&homes, &source, &destination, &sums, edges);
-    if lost < edges {
-        return refused(14, lost);
-    }
     if not_multiple_of(plan.modulus, plan.q) {
         return refused(15, 0);
     }
-    let low = first_not_above(
-        &homes,
-        &source,
-        &destination,
-        &sums,
-        edges,
-        plan.modulus,
-        plan.q,
-    );
+    let low = first_not_above(&crossing, &sums, edges, plan.modulus, plan.q);
     if low < edges {
         return refused(16, low);
     }
     Answer::Accepted {
         q: plan.q,
         modulus: plan.modulus,
-        least: least_modulus(&homes, &source, &destination, &sums, edges, plan.q),
+        least: least_modulus(&crossing, &sums, edges, plan.q),
     }
+}
+
+// Tests 13 to 16 in 01's order.
+fn from_13(plan: Plan, crossing: [u8; 512]) -> Answer
+    requires { ⌜ Crossed plan crossing × (1 ≤ plan .q) ⌝ }
+    ensures { λ r. ⌜ r ≡ from-13 plan ⌝ }
+{
+    let nodes = plan.nodes as usize;
+    let edges = plan.edges as usize;
+    let sums = loop_sums(&plan.source, &plan.destination, &plan.tokens, nodes, edges);
+    let node = first_on_free_cycle(&plan.destination, &sums, edges, nodes);
+    if node < nodes {
+        return refused(13, node);
+    }
+    let edge = first_no_way_back(&crossing, &sums, edges);
+    if edge < edges {
+        return refused(14, edge);
+    }
+    from_15(plan, crossing, sums)
+}
+
+// Tests 11 to 16 in 01's order; `crossing` has 1 for each synchronising edge.
+fn from_11(plan: Plan, crossing: [u8; 512]) -> Answer
+    requires { ⌜ Crossed plan crossing ⌝ }
+    ensures { λ r. ⌜ r ≡ from-11 plan ⌝ }
+{
+    let nodes = plan.nodes as usize;
+    let counters = plan.counters as usize;
+    let edges = plan.edges as usize;
+    let node = first_bad_increment(&crossing, &plan.source, edges, &plan.increment, nodes);
+    if node < nodes {
+        return refused(11, node);
+    }
+    let place = first_bad_sum(&plan.counter, &plan.increment, nodes, plan.q, counters);
+    if place < counters {
+        return refused(12, place);
+    }
+    from_13(plan, crossing)
+}
+
+// Tests 10 to 16 in 01's order.
+fn from_10(plan: Plan) -> Answer
+    requires { ⌜ Tabled plan × (plan .q ≡ counter-sum plan 0) ⌝ }
+    ensures { λ r. ⌜ r ≡ from-10 plan ⌝ }
+{
+    let nodes = plan.nodes as usize;
+    let counters = plan.counters as usize;
+    let homes = plan::homes(&plan.order, &plan.lengths, nodes, plan.processes as usize);
+    let place = first_bad_counter(&homes, &plan.counter, nodes, counters);
+    if place < counters {
+        return refused(10, place);
+    }
+    let crossing = crossings(&homes, &plan.source, &plan.destination, plan.edges as usize);
+    from_11(plan, crossing)
 }
 
 // Tests 9 to 16 in 01's order, on a plan value whose tests 3 and 5 to 8 have passed and whose Q is counter 0's sum.
@@ -696,42 +713,21 @@ pub fn judge(plan: Plan) -> Answer
     requires { ⌜ Tabled plan × (plan .q ≡ counter-sum plan 0) ⌝ }
     ensures { λ r. ⌜ r ≡ from-9 plan ⌝ }
 {
-    let order = plan.order;
-    let lengths = plan.lengths;
-    let counter = plan.counter;
-    let increment = plan.increment;
-    let source = plan.source;
-    let destination = plan.destination;
-    let tokens = plan.tokens;
     let nodes = plan.nodes as usize;
     let processes = plan.processes as usize;
     let edges = plan.edges as usize;
-    let counters = plan.counters as usize;
     let position = first_bad_position(
-        &source,
-        &destination,
-        &tokens,
+        &plan.source,
+        &plan.destination,
+        &plan.tokens,
         edges,
-        &order,
-        &lengths,
+        &plan.order,
+        &plan.lengths,
         processes,
         nodes,
     );
     if position < nodes {
         return refused(9, position);
     }
-    let homes = plan::homes(&order, &lengths, nodes, processes);
-    let stray = first_bad_counter(&homes, &counter, nodes, counters);
-    if stray < counters {
-        return refused(10, stray);
-    }
-    let node = first_bad_increment(&homes, &source, &destination, edges, &increment, nodes);
-    if node < nodes {
-        return refused(11, node);
-    }
-    let uneven = first_bad_sum(&counter, &increment, nodes, plan.q, counters);
-    if uneven < counters {
-        return refused(12, uneven);
-    }
-    from_13(plan, homes)
+    from_10(plan)
 }

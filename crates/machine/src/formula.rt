@@ -1,6 +1,6 @@
 // The test of an edge (000, formula 14) and the token reading (formula 15), on the counters.
 ghost use mathlib.Core.Path.{_≡_};
-ghost use Prim.Native.Nat.{_+_, _<_, _≤_};
+ghost use Prim.Native.Nat.{_+_, _%_, _<_};
 ghost use Rattle.loops.specs.Choice.{at};
 ghost use Rattle.plan.specs.Value.{share};
 ghost use Rattle.counting.specs.Modular.{rounded-up, minus-modulo, finds, reading-printed};
@@ -59,6 +59,14 @@ fn earlier<'a>(
     let home = plan::process_of_position(lengths, processes, place);
     let start = plan::lengths_sum(lengths, home);
     shares(order, counter, increment, counter[x], start, place - start)
+}
+
+// Addition modulo N.
+fn plus_modulo(n: u32, a: u32, b: u32) -> u32
+    requires { ⌜ (0 < n) × (a + b < 4294967296) ⌝ }
+    ensures { λ r. ⌜ r ≡ (a + b) % n ⌝ }
+{
+    (a + b) % n
 }
 
 // Subtraction modulo N.
@@ -124,5 +132,5 @@ pub fn raise<'a>(
     ensures { λ r. ⌜ now (counters .exit) ≡ raised-in (now (counter .entry)) (now (increment .entry)) (now (counters .entry)) modulus v ⌝ }
 {
     let c = plan::wide(counter[v]);
-    counters[c] = (counters[c] + plan::wide(increment[v]) as u32) % modulus;
+    counters[c] = plus_modulo(modulus, counters[c], crate::rows::short(increment[v]));
 }

@@ -80,9 +80,10 @@ fn fresh_state() -> State
 fn refusal(number: u32, state: State) -> Turned
     ensures { λ r. ⌜ r ≡ refused number state ⌝ }
 {
+    let after = state;
     Turned {
         reply: Reply::Refused { number },
-        state,
+        state: after,
     }
 }
 

@@ -282,8 +282,8 @@ pub fn rows_excess<'a>(
     ensures { λ r. ⌜ r ≡ rows-above (now (marks .entry)) (now (opened .entry)) (now (nexts .entry)) (now (destination .entry)) (now (crossing .entry)) processes edges ⌝ }
 {
     let mut excess: u32 = 0;
-    let mut p: usize = 0;
-    while p < 64 {
+    let mut row: usize = 0;
+    while row < 64 {
         excess += row_excess(
             marks,
             opened,
@@ -292,9 +292,9 @@ pub fn rows_excess<'a>(
             crossing,
             processes,
             edges,
-            p,
+            row,
         );
-        p += 1;
+        row += 1;
     }
     excess
 }
@@ -318,12 +318,12 @@ pub fn marks_left(marks: &[u8; 32768], p: usize) -> u32
     requires { ⌜ p < 64 ⌝ }
     ensures { λ r. ⌜ r ≡ row-left (now (marks .entry)) p ⌝ }
 {
-    let base = 512 * p;
+    let row = 512 * p;
     let mut left: u32 = 0;
-    let mut e: usize = 0;
-    while e < 512 {
-        left += byte(marks[base + e]);
-        e += 1;
+    let mut k: usize = 0;
+    while k < 512 {
+        left += byte(marks[row + k]);
+        k += 1;
     }
     left
 }

@@ -8,10 +8,10 @@ use Rattle.conditions.proofs.any_sends.Statement.{statement}
 use Rattle.conditions.proofs.any_sends.Tie as tie
 
 abbrev Inv-loop : tie.InvT-loop
-Inv-loop homes source destination edges v e₀ e = Any (sends-in homes source destination v) edges e
+Inv-loop crossing source edges v e₀ e = Any (sends-in crossing source v) edges e
 
 abbrev μ-loop : tie.MeasureT-loop
-μ-loop homes source destination edges v e₀ e = edges - e
+μ-loop crossing source edges v e₀ e = edges - e
 
 returns : tie.Need-returns Inv-loop μ-loop
 returns c = search (needs, anys, flags)

@@ -1,5 +1,6 @@
 -- `conditions::bad_counter_at` meets its contract. Assumes nothing.
 use borrow.Author.Needs.{needs}
+use mathlib.Core.Path.{_∙_}
 use Rattle.loops.specs.Choice.{both, if-yes, ifs}
 use Rattle.conditions.specs.Lent.{bad-counter-in}
 use Rattle.conditions.proofs.bad_counter_at.Statement.{statement}
@@ -7,7 +8,7 @@ use Rattle.conditions.proofs.bad_counter_at.Tie as tie
 
 returns : tie.Need-returns
 unfolding bad-counter-in both
-returns c = if-yes _ _ _ _ (search (needs, ifs)) (cc)
+returns c = if-yes _ _ _ _ (search (needs, ifs)) (c .any-strays .ensures ∙ rw (c .before .before .first-with-counter .ensures))
 
 returns-2 : tie.Need-returns-2
 unfolding bad-counter-in both

@@ -1,8 +1,6 @@
 -- `conditions::enter_row` meets its contract. Assumes nothing.
 use borrow.Author.Needs.{needs}
 use Prim.Native.Nat.{_-_}
-use native.Mathlib.Omega.{arith}
-use Rattle.routes.specs.Relaxing.{source-in-row}
 use Rattle.conditions.specs.Sums.{Entering, enterings}
 use Rattle.conditions.proofs.enter_row.Statement.{statement}
 use Rattle.conditions.proofs.enter_row.Tie as tie
@@ -13,14 +11,8 @@ Inv-loop sums₀ row source destination tokens edges v e₀ sums e = Entering so
 abbrev μ-loop : tie.MeasureT-loop
 μ-loop sums₀ row source destination tokens edges v e₀ sums e = edges - e
 
-mul-entry-of-2 : tie.Need-mul-entry-of-2 Inv-loop μ-loop
-mul-entry-of-2 c = let l = c .before .before .before .before in omega (arith, l .before .pre .1 .source-lt (l .loop .e) (c .before .before .before .loop-test .taken))
-
-element-copy-out-entry-of-2 : tie.Need-element-copy-out-entry-of-2 Inv-loop μ-loop
-element-copy-out-entry-of-2 c = search (needs, source-in-row)
-
-entry-of-requires : tie.Need-entry-of-requires Inv-loop μ-loop
-entry-of-requires c κs = let w = c .before .before .before .before .before in w .before .before .before .before .pre .2 (w .wide .result)
+through-at-requires : tie.Need-through-at-requires Inv-loop μ-loop
+through-at-requires c κs = let l = c .before in (search needs, l .before .pre .1 .source-lt (l .loop .e) (c .loop-test .taken), l .before .pre .2)
 
 returns : tie.Need-returns Inv-loop μ-loop
 returns c = search (needs, enterings)
@@ -32,19 +24,12 @@ enter-row-spec =
     Inv-loop
     μ-loop
     (λ c. search (needs, enterings))
+    through-at-requires
+    (λ c. search needs)
+    (λ c. search needs)
     (λ c. search needs)
     (λ c. search needs)
     (λ c κs. search needs)
-    (λ c. search needs)
-    (λ c. search needs)
-    mul-entry-of-2
-    element-copy-out-entry-of-2
-    (λ c. search needs)
-    (λ c. search needs)
-    (λ c κs. search needs)
-    (λ c. search needs)
-    (λ c. search needs)
-    entry-of-requires
     (λ c. search needs)
     (λ c. search needs)
     (λ c. search needs)

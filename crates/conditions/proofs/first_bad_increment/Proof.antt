@@ -7,10 +7,10 @@ use Rattle.conditions.proofs.first_bad_increment.Statement.{statement}
 use Rattle.conditions.proofs.first_bad_increment.Tie as tie
 
 abbrev Inv-loop : tie.InvT-loop
-Inv-loop homes source destination edges increment nodes v₀ v = First (bad-increment-in homes source destination edges increment) nodes v
+Inv-loop crossing source edges increment nodes v₀ v = First (bad-increment-in crossing source edges increment) nodes v
 
 abbrev μ-loop : tie.MeasureT-loop
-μ-loop homes source destination edges increment nodes v₀ v = nodes - v
+μ-loop crossing source edges increment nodes v₀ v = nodes - v
 
 returns : tie.Need-returns Inv-loop μ-loop
 returns c = search (needs, firsts)

@@ -7,10 +7,10 @@ use Rattle.conditions.proofs.first_no_way_back.Statement.{statement}
 use Rattle.conditions.proofs.first_no_way_back.Tie as tie
 
 abbrev Inv-loop : tie.InvT-loop
-Inv-loop homes source destination sums edges e₀ e = First (no-way-back-in homes source destination sums) edges e
+Inv-loop crossing sums edges e₀ e = First (no-way-back-in crossing sums) edges e
 
 abbrev μ-loop : tie.MeasureT-loop
-μ-loop homes source destination sums edges e₀ e = edges - e
+μ-loop crossing sums edges e₀ e = edges - e
 
 returns : tie.Need-returns Inv-loop μ-loop
 returns c = search (needs, firsts)

@@ -7,10 +7,10 @@ use Rattle.conditions.proofs.first_not_above.Statement.{statement}
 use Rattle.conditions.proofs.first_not_above.Tie as tie
 
 abbrev Inv-loop : tie.InvT-loop
-Inv-loop homes source destination sums edges modulus q e₀ e = First (not-above-in homes source destination sums modulus q) edges e
+Inv-loop crossing sums edges modulus q e₀ e = First (not-above-in crossing sums modulus q) edges e
 
 abbrev μ-loop : tie.MeasureT-loop
-μ-loop homes source destination sums edges modulus q e₀ e = edges - e
+μ-loop crossing sums edges modulus q e₀ e = edges - e
 
 returns : tie.Need-returns Inv-loop μ-loop
 returns c = search (needs, firsts)

@@ -5,7 +5,7 @@ use Rattle.conditions.proofs.least_modulus.Statement.{statement}
 use Rattle.conditions.proofs.least_modulus.Tie as tie
 
 mul-result : tie.Need-mul-result
-mul-result c = product-fits (c .before .pre .2) (c .most-asked-of .ensures .1)
+mul-result c = product-fits (c .before .pre .1) (c .most-asked-of .ensures .1)
 
 returns : tie.Need-returns
 returns c = rw (c .most-asked-of .ensures .0)

@@ -2,20 +2,21 @@
 use borrow.Author.Needs.{needs}
 use Prim.Native.Nat.{_-_, _≤_, max}
 use native.Mathlib.Omega.{arith}
+use mathlib.Core.Path.{ap, _∙_}
 use Rattle.loops.specs.Fold.{Fold, folds, fold-more}
 use Rattle.conditions.specs.Lent.{asks-in, most-asked}
 use Rattle.conditions.proofs.most_asked_of.Statement.{statement}
 use Rattle.conditions.proofs.most_asked_of.Tie as tie
 
 abbrev Inv-loop : tie.InvT-loop
-Inv-loop homes source destination sums edges most₀ e₀ most e = Fold (λ i m. max m (asks-in homes source destination sums i)) 1 edges e most × (most ≤ 101001)
+Inv-loop crossing sums edges most₀ edge₀ most edge = Fold (λ i m. max m (asks-in crossing sums i)) 1 edges edge most × (most ≤ 101001)
 
 abbrev μ-loop : tie.MeasureT-loop
-μ-loop homes source destination sums edges most₀ e₀ most e = edges - e
+μ-loop crossing sums edges most₀ edge₀ most edge = edges - edge
 
 loop-again : tie.Need-loop-again Inv-loop μ-loop
 unfolding most-asked
-loop-again c = (fold-more (c .before .before .before .loop .inv .0) (c .before .before .loop-test .taken) (cc), omega arith)
+loop-again c = (fold-more (c .before .before .before .loop .inv .0) (c .before .before .loop-test .taken) (c .greater .ensures ∙ ap (max _) (c .before .asks-at .ensures .0)), omega (arith, c .greater .ensures, c .before .asks-at .ensures .1))
 
 returns : tie.Need-returns Inv-loop μ-loop
 unfolding most-asked

@@ -2,9 +2,10 @@
 use borrow.Author.Needs.{needs}
 use native.Mathlib.Numerals.{add-one}
 use native.Mathlib.Omega.{arith}
+use mathlib.Core.Path.{_∙_}
 use Rattle.loops.specs.Choice.{if-yes, if-no, flags}
-use Rattle.conditions.specs.Tests.{next-position}
 use Rattle.plan.specs.Seating.{process-at-lt}
+use Rattle.conditions.specs.Tests.{next-position}
 use Rattle.conditions.proofs.next_position_of.Statement.{statement}
 use Rattle.conditions.proofs.next_position_of.Tie as tie
 
@@ -14,7 +15,7 @@ lengths-sum-requires c κs = omega (arith, process-at-lt _ _ _ (c .before .befor
 
 returns : tie.Need-returns
 unfolding next-position
-returns c = if-yes _ _ _ _ (search (needs, flags)) (cc)
+returns c = if-yes _ _ _ _ (search (needs, flags)) (c .lengths-sum .ensures ∙ rw (c .before .process-of-position .ensures))
 
 returns-2 : tie.Need-returns-2
 unfolding next-position

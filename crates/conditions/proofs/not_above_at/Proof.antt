@@ -1,7 +1,7 @@
 -- `conditions::not_above_at` meets its contract. Assumes nothing.
 use borrow.Author.Needs.{needs}
 use native.Mathlib.Omega.{arith}
-use Rattle.loops.specs.Choice.{both, ifs, flags}
+use Rattle.loops.specs.Choice.{both, ifs}
 use Rattle.conditions.specs.Lent.{not-above-in}
 use Rattle.conditions.specs.Bounds.{product-fits}
 use Rattle.conditions.proofs.not_above_at.Statement.{statement}
@@ -9,21 +9,21 @@ use Rattle.conditions.proofs.not_above_at.Tie as tie
 
 mul-result-2 : tie.Need-mul-result-2
 unfolding not-above-in both
-mul-result-2 c = let s = c .before .before .before in product-fits (s .pre .3) (omega (arith, s .pre .4 (s .args .e)))
+mul-result-2 c = let s = c .before .before .before in product-fits (s .pre .1) (omega (arith, s .pre .2 (s .args .e)))
 
 returns : tie.Need-returns
 unfolding not-above-in both
-returns c = search (needs, ifs, flags)
+returns c = search (needs, ifs)
 
 returns-2 : tie.Need-returns-2
 unfolding not-above-in both
-returns-2 c = search (needs, ifs, flags)
+returns-2 c = search (needs, ifs)
 
 pub not-above-at-spec : {M : Type 1} → statement M
 not-above-at-spec =
     tie.close
     (tie.spec
-    (λ c κs. search needs)
+    (λ c. search needs)
     (λ c. search needs)
     (λ c. search needs)
     mul-result-2

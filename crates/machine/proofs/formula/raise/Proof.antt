@@ -5,8 +5,9 @@ use Rattle.machine.specs.Lists.{raised-in}
 use Rattle.machine.proofs.formula.raise.Statement.{statement}
 use Rattle.machine.proofs.formula.raise.Tie as tie
 
-add-counters : tie.Need-add-counters
-add-counters c = let h = rw (← c .before .before .before .wide .ensures) at (c .before .before .before .before .before .pre .value-lt) in omega arith
+plus-modulo-requires : tie.Need-plus-modulo-requires
+plus-modulo-requires c κs = let h = rw (← c .before .before .before .wide .ensures) at (c .before .before .before .before .before .pre .value-lt) in
+    (omega arith, omega arith)
 
 returns : tie.Need-returns
 unfolding raised-in
@@ -24,9 +25,7 @@ raise-spec =
     (λ c. search needs)
     (λ c. search needs)
     (λ c κs. search needs)
-    (λ c. search needs)
-    add-counters
-    (λ c. search needs)
+    plus-modulo-requires
     (λ c. search needs)
     (λ c. search needs)
     returns)

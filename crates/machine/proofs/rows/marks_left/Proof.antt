@@ -9,10 +9,10 @@ use Rattle.machine.proofs.rows.marks_left.Statement.{statement}
 use Rattle.machine.proofs.rows.marks_left.Tie as tie
 
 abbrev Inv-loop : tie.InvT-loop
-Inv-loop marks p base left₀ e₀ left e = Sum (λ k. at marks (512 * p + k)) 512 e left × (left ≤ 255 * e) × (base ≡ 512 * p)
+Inv-loop marks p row left₀ k₀ left k = Sum (λ j. at marks (512 * p + j)) 512 k left × (left ≤ 255 * k) × (row ≡ 512 * p)
 
 abbrev μ-loop : tie.MeasureT-loop
-μ-loop marks p base left₀ e₀ left e = 512 - e
+μ-loop marks p row left₀ k₀ left k = 512 - k
 
 returns : tie.Need-returns Inv-loop μ-loop
 unfolding row-left

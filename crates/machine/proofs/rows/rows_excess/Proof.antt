@@ -7,10 +7,10 @@ use Rattle.machine.proofs.rows.rows_excess.Statement.{statement}
 use Rattle.machine.proofs.rows.rows_excess.Tie as tie
 
 abbrev Inv-loop : tie.InvT-loop
-Inv-loop marks opened nexts destination crossing processes edges excess₀ p₀ excess p = Sum (λ k. row-above (allowed-row opened nexts destination crossing processes edges k) marks k) 64 p excess × (excess ≤ 512 * p)
+Inv-loop marks opened nexts destination crossing processes edges excess₀ row₀ excess row = Sum (λ k. row-above (allowed-row opened nexts destination crossing processes edges k) marks k) 64 row excess × (excess ≤ 512 * row)
 
 abbrev μ-loop : tie.MeasureT-loop
-μ-loop marks opened nexts destination crossing processes edges excess₀ p₀ excess p = 64 - p
+μ-loop marks opened nexts destination crossing processes edges excess₀ row₀ excess row = 64 - row
 
 returns : tie.Need-returns Inv-loop μ-loop
 unfolding rows-above
