@@ -186,7 +186,7 @@ fn strays_at<'a>(homes: &'a [u16; 64], counter: &'a [u16; 64], f: usize, c: usiz
     ensures { λ r. ⌜ r ≡ strays-in (now (homes .entry)) (now (counter .entry)) f c v ⌝ }
 {
     if wide(counter[v]) == c {
-        plan::synchronising(homes, v, f)
+        seats::synchronising(homes, v, f)
     } else {
         false
     }
@@ -257,7 +257,7 @@ fn crossing_at<'a>(
     requires { ⌜ (e < edges) × (edges ≤ 512) × EndsInRow (now source) (now destination) edges ⌝ }
     ensures { λ r. ⌜ r ≡ crosses (now (homes .entry)) (now (source .entry)) (now (destination .entry)) e ⌝ }
 {
-    if plan::synchronising(homes, wide(source[e]), wide(destination[e])) {
+    if seats::synchronising(homes, wide(source[e]), wide(destination[e])) {
         1
     } else {
         0
@@ -699,7 +699,7 @@ fn from_10(plan: Plan) -> Answer
 {
     let nodes = plan.nodes as usize;
     let counters = plan.counters as usize;
-    let homes = plan::homes(&plan.order, &plan.lengths, nodes, plan.processes as usize);
+    let homes = seats::homes(&plan.order, &plan.lengths, nodes, plan.processes as usize);
     let place = first_bad_counter(&homes, &plan.counter, nodes, counters);
     if place < counters {
         return refused(10, place);

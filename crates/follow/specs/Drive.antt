@@ -31,7 +31,7 @@ use Rattle.follow.specs.PlanSeats.{tokens-after, tables}
 use Rattle.follow.specs.StandsFor.{Follows}
 use Rattle.follow.specs.EdgeTest.{found-exactly}
 use Rattle.follow.specs.FollowsCalls.{open-follows, found-follows}
-use Rattle.follow.specs.OpenExact.{opens, is-open}
+use Rattle.machine.specs.OpenExact.{opens, is-open}
 use Rattle.follow.specs.LookExact.{end-next}
 use Rattle.follow.specs.Listed.{Listed, listed-first, listed-length}
 use Rattle.follow.specs.RunLaws.{replies-append, replies-first, last-first, replies-none, last-none}

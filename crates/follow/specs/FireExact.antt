@@ -14,12 +14,12 @@ use Rattle.plan.specs.Value.{graph-of, InProcess}
 use Rattle.conditions.specs.Sound.{Sound}
 use Rattle.machine.specs.declared.State.{State}
 use Rattle.machine.specs.declared.Reply.the-variants.{Fired}
-use Rattle.machine.specs.States.{next-node}
-use Rattle.machine.specs.Calls.{marks-left, do-fire, refused}
+use Rattle.machine.specs.States.{next-node, Sized, StateInShape}
+use Rattle.machine.specs.Calls.{marks-left}
 use Rattle.machine.specs.Runs.{Call, turn}
-use Rattle.machine.specs.Replies.{same-fired, refused-not-fired}
-use Rattle.machine.specs.CallCases.{fire-turn, fire-accepted, fire-cases}
-use Rattle.machine.specs.ShapeKept.{kept-fits}
+use Rattle.machine.specs.Exactly as exactly
+use Rattle.machine.specs.Exactly.{fire-means}
+use Rattle.machine.specs.ShapeKept.{kept-exactly}
 use Rattle.follow.specs.PlanSeats.{tokens-after, tables, shaped, every-cycle-holds, seats, sits-home}
 use Rattle.follow.specs.StandsFor.{Follows}
 use Rattle.follow.specs.FollowsCalls.{fire-fireable}
@@ -34,45 +34,31 @@ pub record FireMeans (pl : Plan) (st : State) (tokens : ℕ → ℕ) (p v : ℕ)
   pub fireable : Fireable (graph-of pl) tokens v
 
 module _ (pl : Plan) (sound : Sound pl) (st : State) (s : List ℕ) (f : Follows pl sound st s) where
-  -- an open flag is 1
-  flag-is : (p : ℕ) → p < pl .processes → at (st .opened) p ≢ 0 → at (st .opened) p ≡ 1
-  flag-is p h o = let t = f .kept .parts .opened p (omega (arith, tables pl sound .counts)) .known h in omega arith
-
-  -- what its result says where it is not refused
-  fire-means : (p v : ℕ) → do-fire pl st p .reply ≡ Fired v → p < pl .processes → at (st .opened) p ≢ 0 → marks-left st p ≡ 0
-      → FireMeans pl st (tokens-after pl s) p v
-  unfolding do-fire
-  fire-means p v q h o z =
-      let node : v ≡ next-node pl st p = same-fired refl q in
-      record {
-        process-lt = h;
-        is-open = flag-is p h o;
-        none-left = z;
-        node-is = node;
-        fireable = subst (Fireable (graph-of pl) (tokens-after pl s)) (sym node) (fire-fireable pl sound st s f p h o z);
-      }
+  in-shape : StateInShape pl st × Sized st
+  in-shape = kept-exactly pl (sound .shape) st .0 (f .kept)
 
   -- what an answer fired says
   pub fire-fires : (c : Call) → c .code ≡ 2 → (v : ℕ) → turn pl st c .reply ≡ Fired v → FireMeans pl st (tokens-after pl s) (c .process) v
-  unfolding refused
   fire-fires c z v q =
-      fire-cases pl st (λ t. t .reply ≡ Fired v → FireMeans pl st (tokens-after pl s) (c .process) v) (λ number d r. absurd (refused-not-fired refl r)) (c .process)
-      (λ h o y r. fire-means (c .process) v r h o y) (ap (λ t. t .reply) (sym (fire-turn pl st (kept-fits pl (sound .shape) st (f .kept)) c z)) ∙ q)
+      let m = fire-means pl (sound .shape) st (in-shape .0) (in-shape .1) c z v q in
+      record {
+        process-lt = m .0;
+        is-open = m .1;
+        none-left = m .2;
+        node-is = m .3;
+        fireable = subst (Fireable (graph-of pl) (tokens-after pl s)) (sym (m .3)) (fire-fireable pl sound st s f (c .process) (m .0) (λ y. omega (arith, m .1)) (m .2));
+      }
 
   -- the reply of one where the process is open with no mark left
   pub fire-answers : (c : Call) → c .code ≡ 2 → c .process < pl .processes → at (st .opened) (c .process) ≢ 0 → marks-left st (c .process) ≡ 0
       → turn pl st c .reply ≡ Fired (next-node pl st (c .process))
-  unfolding do-fire
-  fire-answers c z h o y = ap (λ t. t .reply) (fire-turn pl st (kept-fits pl (sound .shape) st (f .kept)) c z ∙ fire-accepted pl st (c .process) h o y)
+  fire-answers c z = exactly.fire-answers pl (sound .shape) st (in-shape .0) (in-shape .1) c z
 
   -- so it fires exactly there
   pub fire-exactly : (c : Call) → c .code ≡ 2
       → ((v : ℕ) × (turn pl st c .reply ≡ Fired v))
       ↔ ((c .process < pl .processes) × (at (st .opened) (c .process) ≡ 1) × (marks-left st (c .process) ≡ 0))
-  fire-exactly c z = (
-    λ w. let m = fire-fires c z (w .0) (w .1) in (m .process-lt, m .is-open, m .none-left),
-    λ r. (next-node pl st (c .process), fire-answers c z (r .0) (λ y. omega (arith, r .1)) (r .2)),
-  )
+  fire-exactly c z = exactly.fire-exactly pl (sound .shape) st (in-shape .0) (in-shape .1) c z
 
   -- an edge inside a process holds a token where its end is next
   pub chord-token : (e p : ℕ) → e < pl .edges → InProcess pl (at (pl .source) e) p → InProcess pl (at (pl .destination) e) p

@@ -9,7 +9,6 @@ pub mod EdgeTest
 pub mod FollowsCalls
 pub mod Follows
 -- what an open, a look and a fire call answer
-pub mod OpenExact
 pub mod LookExact
 pub mod FireExact
 -- one process called alone fires; every legal order is reached

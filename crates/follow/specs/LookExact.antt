@@ -17,11 +17,12 @@ use Rattle.machine.specs.declared.State.{State}
 use Rattle.machine.specs.declared.Reply.the-variants.{Found, Wait}
 use Rattle.machine.specs.declared.Turned.{Turned}
 use Rattle.machine.specs.States.{mark, next-node}
-use Rattle.machine.specs.Calls.{edge-found, marks-left, with-marks, do-look}
+use Rattle.machine.specs.Calls.{edge-found, marks-left, do-look}
 use Rattle.machine.specs.Runs.{Call, turn}
 use Rattle.machine.specs.ByTest.{if-either}
 use Rattle.machine.specs.Replies.{same-found, same-wait, found-not-wait}
 use Rattle.machine.specs.CallCases.{look-turn, look-accepted}
+use Rattle.machine.specs.Exactly.{marks-stay}
 use Rattle.machine.specs.ShapeKept.{kept-fits}
 use Rattle.follow.specs.PlanSeats.{tokens-after, tables, seats}
 use Rattle.follow.specs.StandsFor.{Follows, next-node-is}
@@ -53,11 +54,6 @@ module _ (tokens p : ℕ) (t : Turned) where
         found-left = λ left r. absurd (found-not-wait r q);
         wait-left = λ left r. same-wait q r;
       }
-
--- a look that waits leaves the marks
-marks-stay : (st : State) (p : ℕ) → marks-left (with-marks st (st .marks)) p ≡ marks-left st p
-unfolding marks-left mark with-marks
-marks-stay st p = refl
 
 -- a test that is true exactly where a token stands makes an exact look
 exact-look : (pl : Plan) (st : State) (p e tokens : ℕ) → (edge-found pl st e ≡ true) ↔ (0 < tokens) → LookExact tokens p (do-look pl st p e)

@@ -30,7 +30,7 @@ use Rattle.follow.specs.Counters.{added}
 use Rattle.follow.specs.PlanSeats.{tokens-after, counters}
 use Rattle.follow.specs.StandsFor.{Follows}
 use Rattle.follow.specs.Follows.{reached-follows}
-use Rattle.follow.specs.OpenExact.{OpenExact, open-is-exact}
+use Rattle.machine.specs.OpenExact.{OpenExact, open-is-exact}
 use Rattle.follow.specs.LookExact.{LookExact, look-is-exact}
 use Rattle.follow.specs.FireExact.{FireMeans, fire-fires, fire-exactly, chord-token}
 use Rattle.follow.specs.DriveCalls.{YetToSee}

@@ -13,6 +13,7 @@ use Rattle.counting.specs.Modular.{less-earlier, finds, reading-printed}
 use Rattle.plan.specs.declared.Plan.{Plan}
 use Rattle.plan.specs.Value.{node-at, share}
 use Rattle.plan.specs.Tests.{home, seat, synchronises, plan-fits}
+use Rattle.rows.specs.Lists.{out-of-range}
 use Rattle.machine.specs.declared.State.{State}
 use Rattle.machine.specs.declared.Reply.{Reply}
 use Rattle.machine.specs.declared.Reply.the-variants.{Opened, Found, Wait, Fired, Refused}
@@ -124,11 +125,6 @@ fire-in-shape pl st p =
     if (leb (pl .processes) p) (refused 20 st)
     (if (eqb (at (st .opened) p) 0) (refused 22 st)
     (if (eqb (marks-left st p) 0) (do-fire pl st p) (refused 24 st)))
-
--- ---- the shape of a state, as the program tests it
--- an entry that is out of range: at or above its limit where it is known, not 0 past the count
-unfoldable pub out-of-range : (ℕ → ℕ) → ℕ → List ℕ → ℕ → Bool
-out-of-range limit count entries k = if (ltb k count) (leb (limit k) (at entries k)) (ltb 0 (at entries k))
 
 -- the most that process p's mark of edge e may be
 unfoldable pub mark-allowed : Plan → State → ℕ → ℕ → ℕ

@@ -5,68 +5,26 @@ use mathlib.Core.List.{List}
 use mathlib.Core.Bool.{Bool, true, false}
 use Prim.Native.Nat.{ℕ, suc, _+_, _-_, _*_, _≤_, _<_}
 use native.Mathlib.Omega.{arith}
-use borrow.Author.Tests.{leb-false, le-leb, lt-leb, lt-ltb, le-ltb}
+use borrow.Author.Tests.{leb-false}
 use lib.Dec.{eqb, ltb, leb}
-use Rattle.loops.specs.Choice.{at, if, both, one-if, both-true}
-use Rattle.loops.specs.First.{first-le}
+use Rattle.loops.specs.Choice.{at, if, one-if}
 use Rattle.loops.specs.Sum.{sum}
 use Rattle.plan.specs.declared.Plan.{Plan}
 use Rattle.plan.specs.Value.{base, node-at}
 use Rattle.plan.specs.Faults.{InShape}
-use Rattle.plan.specs.Tests.{place-of, process-at, stands-at, ends-past, plan-fits}
+use Rattle.plan.specs.Tests.{plan-fits}
 use Rattle.plan.specs.Formed.{Tabled, formed, fits-exactly, past}
-use Rattle.plan.specs.Seating.{begins-before, within, node-at-lt}
+use Rattle.plan.specs.Seating.{within, node-at-lt}
 use Rattle.machine.specs.declared.State.{State}
 use Rattle.machine.specs.States.{StateInShape}
 use Rattle.machine.specs.Calls.{position-bad, state-fits, both-fit}
 use Rattle.machine.specs.ShapeTest.{nowhere, in-range, both-fit-exactly}
-use Rattle.machine.specs.Lists.{NextsOk, EndsOk, SeatsOk, PlacedOk, CountedOk, RaiseOk, next-in, row-left, marked-in, open-number, look-number, fire-number}
+use Rattle.rows.specs.Lists.{NextsOk, EndsOk, next-in, row-left, marked-in, open-number, look-number, fire-number}
+use Rattle.formula.specs.Lists.{CountedOk, RaiseOk}
 
 -- ---- over lists
--- a test chosen first
-pub one-yes : (t a b : Bool) {r : ℕ} → t ≡ true → r ≡ one-if a → r ≡ one-if (if t a b)
-unfolding if
-one-yes t a b e q = rw e q
-
-pub one-no : (t a b : Bool) {r : ℕ} → t ≡ false → r ≡ one-if b → r ≡ one-if (if t a b)
-unfolding if
-one-no t a b e q = rw e q
-
-pub ruleset ones = (one-yes, one-no)
-
--- a test of a call's result r, which the callee ensures to be a limit
-pub leb-yes : (a b r : ℕ) → r ≡ a → r ≤ b → leb a b ≡ true
-leb-yes a b r e h = le-leb a b (omega arith)
-
-pub leb-no : (a b r : ℕ) → r ≡ a → b < r → leb a b ≡ false
-leb-no a b r e h = lt-leb a b (omega arith)
-
-pub some-yes : (a r : ℕ) → r ≡ a → 0 < r → ltb 0 a ≡ true
-some-yes a r e h = lt-ltb 0 a (omega arith)
-
-pub some-no : (a r : ℕ) → r ≡ a → r ≤ 0 → ltb 0 a ≡ false
-some-no a r e h = le-ltb 0 a (omega arith)
-
-pub ruleset limits = (leb-yes, leb-no, some-yes, some-no)
-
 pub below-it : (a b r : ℕ) → r ≡ b → a < r → a < b
 below-it a b r e h = omega arith
-
--- the process of an order position, and where it begins
-pub home-most : (lengths : List ℕ) (processes i home : ℕ) → home ≡ process-at lengths processes i → processes ≤ 64 → home ≤ 64
-unfolding process-at
-home-most lengths processes i home e h = omega (arith, first-le (ends-past lengths i) processes)
-
-pub starts-before : (lengths : List ℕ) (processes i home start : ℕ) → home ≡ process-at lengths processes i → start ≡ base lengths home → start ≤ i
-starts-before lengths processes i home start e q = omega (arith, begins-before lengths processes i home (omega arith))
-
--- the seats before a node's own
-pub seats-ok : (order : List ℕ) (nodes processes x place start : ℕ) → PlacedOk order nodes processes x → place ≡ place-of order nodes x → start ≤ place
-    → SeatsOk order start (place - start)
-unfolding place-of
-seats-ok order nodes processes x place start ok e h =
-    let m : place ≤ nodes = omega (arith, first-le (stands-at order x) nodes) in
-    record { within = omega arith; entry-lt = λ j l. ok .order-lt (start + j) (omega arith) }
 
 -- the same for equal numbers, as a callee hands them over
 pub counted-at : (order counter counters : List ℕ) (nodes processes modulus x n p y : ℕ) → CountedOk order counter counters nodes processes modulus x

@@ -20,7 +20,12 @@ pub mod ShapeParts
 pub mod ShapeTest
 pub mod KeptByCalls
 pub mod ShapeKept
+-- what the calls answer and mark, on a plan and a state in shape
+pub mod OpenExact
+pub mod Exactly
+-- entries past the counts are not used; each promise leaves room for one answer
+pub mod Agreeing
+pub mod Unique
 -- what the code needs: indices in range, equal records and lists
-pub mod Lists
 pub mod InRange
 pub mod Same

@@ -29,7 +29,15 @@ module _ {r : Reply} {m n : ℕ} where
   pub found-not-wait : r ≡ Found m → r ≡ Wait n → ⊥
   found-not-wait a b = let z : _≡_ {A = ℕ} 0 1 = cc in omega arith
 
-  -- refused is not fired
+  -- refused is not found
+  pub refused-not-found : r ≡ Refused m → r ≡ Found n → ⊥
+  refused-not-found a b = let z : _≡_ {A = ℕ} 0 1 = cc in omega arith
+
+  -- nor wait
+  pub refused-not-wait : r ≡ Refused m → r ≡ Wait n → ⊥
+  refused-not-wait a b = let z : _≡_ {A = ℕ} 0 1 = cc in omega arith
+
+  -- nor fired
   pub refused-not-fired : r ≡ Refused m → r ≡ Fired n → ⊥
   refused-not-fired a b = let z : _≡_ {A = ℕ} 0 1 = cc in omega arith
 

@@ -10,19 +10,21 @@ use Rattle.plan.specs.declared.Plan.{Plan}
 use Rattle.plan.specs.Faults.{InShape}
 use Rattle.plan.specs.Tests.{plan-fits}
 use Rattle.plan.specs.Formed.{fits-exactly}
+use Rattle.plan.specs.Agree.{Agree}
 use Rattle.machine.specs.declared.State.{State}
 use Rattle.machine.specs.declared.Reply.{Reply}
 use Rattle.machine.specs.declared.Reply.the-variants.{Opened, Found, Wait, Fired, Refused}
 use Rattle.machine.specs.declared.Turned.{Turned}
 use Rattle.machine.specs.declared.Began.{Began}
 use Rattle.machine.specs.States.{fresh, Sized, StateInShape}
-use Rattle.machine.specs.Calls.{raised, do-open, do-look, do-fire, refused, begin-run, opened-state, found-state, with-marks, fired-state, edge-found}
+use Rattle.machine.specs.Calls.{raised, do-open, do-look, do-fire, refused, begin-run, reading-call, opened-state, found-state, with-marks, fired-state, edge-found}
 use Rattle.machine.specs.Runs.{Call, turn}
 use Rattle.machine.specs.Replies.{opened-not-refused, found-not-refused, wait-not-refused, fired-not-refused}
 use Rattle.machine.specs.ByTest.{if-either}
 use Rattle.machine.specs.CallCases.{by-step}
 use Rattle.machine.specs.ShapeTest as shape-test
 use Rattle.machine.specs.ShapeKept as kept
+use Rattle.machine.specs.Agreeing as agreeing
 
 -- the answer is a refusal
 abbrev pub IsRefused : Reply → Type 0
@@ -80,3 +82,15 @@ pub shape-kept : (pl : Plan) (shape : InShape pl) (st : State) → StateInShape 
     → StateInShape pl (turn pl st c .state) × Sized (turn pl st c .state)
 unfolding turn
 shape-kept pl shape st s z c = kept.shape-kept-by-step pl shape st s z (c .code) (c .process) (c .edge)
+
+-- "its table entries past the counts are neither tested nor used": plan values that agree within their counts begin alike, and get the same
+-- answer and the same state from every call, and the same reading
+pub begin-agrees : (a b : Plan) → Agree a b → begin-run a ≡ begin-run b
+begin-agrees = agreeing.begin-agrees
+
+pub call-agrees : (a b : Plan) → Agree a b → (st : State) (c : Call) → turn a st c ≡ turn b st c
+unfolding turn
+call-agrees a b s st c = agreeing.step-agrees a b s st (c .code) (c .process) (c .edge)
+
+pub reading-agrees : (a b : Plan) → Agree a b → (st : State) (e : ℕ) → reading-call a st e ≡ reading-call b st e
+reading-agrees = agreeing.reading-agrees

@@ -8,17 +8,13 @@ ghost use Rattle.plan.specs.Value.{base};
 ghost use Rattle.plan.specs.Faults.{InShape};
 ghost use Rattle.plan.specs.Formed.{Tabled};
 ghost use Rattle.machine.specs.States.{StateInShape, fresh};
-ghost use Rattle.machine.specs.Lists.{next-in};
+ghost use Rattle.rows.specs.Lists.{next-in};
 ghost use Rattle.machine.specs.Same.{EndsAre, crossing-of, row-of, found-in, reading-in};
 ghost use Rattle.machine.specs.InRange.{MarksOk, OpenOk, EdgeOk, FireOk};
 ghost use Rattle.machine.specs.Calls.{next-position, refused, row-excess, do-open, do-look, do-fire};
 ghost use Rattle.machine.specs.Calls.{open-in-shape, look-in-shape, fire-in-shape, step-in-shape, reading-in-shape};
 ghost use Rattle.machine.specs.Calls.{state-fits, both-fit, begin-run, open-call, look-call, fire-call, step-call, reading-call};
 use plan::Plan;
-
-mod formula;
-mod refusals;
-mod rows;
 
 // The run's state: for each process a position, open (1) or closed (0), and a row of 512 marks of edges still to see; the counters; a turn number.
 #[repr(C)]
@@ -92,7 +88,7 @@ fn crossing(plan: Plan) -> [u8; 512]
     requires { ⌜ Tabled plan ⌝ }
     ensures { λ r. ⌜ r ≡ crossing-of plan ⌝ }
 {
-    let homes = plan::homes(
+    let homes = seats::homes(
         &plan.order,
         &plan.lengths,
         plan::wide(plan.nodes),
@@ -232,7 +228,7 @@ fn edge_found(plan: Plan, counters: &[u32; 64], e: usize) -> bool
     formula::is_found(
         plan.q,
         plan.modulus,
-        rows::short(plan.tokens[e]),
+        plan::short(plan.tokens[e]),
         b.end,
         b.source,
     )
@@ -291,7 +287,7 @@ fn do_fire(plan: Plan, state: State, p: usize) -> Turned
     after.turn = std::num::wrapping_add_u32(state.turn, 1);
     Turned {
         reply: Reply::Fired {
-            node: rows::short(node),
+            node: plan::short(node),
         },
         state: after,
     }
@@ -302,7 +298,7 @@ pub fn open_in_shape(plan: Plan, state: State, process: u32) -> Turned
     requires { ⌜ InShape plan × StateInShape plan state ⌝ }
     ensures { λ r. ⌜ r ≡ open-in-shape plan state process ⌝ }
 {
-    let number = refusals::of_open(plan.processes, &state.opened, process);
+    let number = rows::refusals::of_open(plan.processes, &state.opened, process);
     if 0 < number {
         return refusal(number, state);
     }
@@ -314,7 +310,7 @@ pub fn look_in_shape(plan: Plan, state: State, process: u32, edge: u32) -> Turne
     requires { ⌜ InShape plan × StateInShape plan state ⌝ }
     ensures { λ r. ⌜ r ≡ look-in-shape plan state process edge ⌝ }
 {
-    let number = refusals::of_look(
+    let number = rows::refusals::of_look(
         plan.processes,
         plan.edges,
         &state.opened,
@@ -333,7 +329,7 @@ pub fn fire_in_shape(plan: Plan, state: State, process: u32) -> Turned
     requires { ⌜ InShape plan × StateInShape plan state ⌝ }
     ensures { λ r. ⌜ r ≡ fire-in-shape plan state process ⌝ }
 {
-    let number = refusals::of_fire(plan.processes, &state.opened, &state.marks, process);
+    let number = rows::refusals::of_fire(plan.processes, &state.opened, &state.marks, process);
     if 0 < number {
         return refusal(number, state);
     }
@@ -366,7 +362,7 @@ fn edge_reading(plan: Plan, counters: &[u32; 64], e: usize) -> u32
     formula::reading(
         plan.q,
         plan.modulus,
-        rows::short(plan.tokens[e]),
+        plan::short(plan.tokens[e]),
         b.source,
         b.end,
     )
@@ -377,7 +373,7 @@ pub fn reading_in_shape(plan: Plan, state: State, edge: u32) -> Level
     requires { ⌜ InShape plan × StateInShape plan state ⌝ }
     ensures { λ r. ⌜ r ≡ reading-in-shape plan state edge ⌝ }
 {
-    if rows::short(plan.edges) <= edge {
+    if plan::short(plan.edges) <= edge {
         return Level::Unread { number: 27 };
     }
     let e = edge as usize;

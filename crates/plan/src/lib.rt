@@ -1,16 +1,16 @@
-// The plan value, tests 3 and 5 to 8 over it, its shape, and the process of each node.
+// The plan value, tests 3 and 5 to 8 over it, and its shape.
 ghost use mathlib.Core.Path.{_≡_};
 ghost use Prim.Native.Nat.{_<_, _≤_};
 ghost use Rattle.loops.specs.Choice.{at};
 ghost use Rattle.loops.specs.First.{first};
 ghost use Rattle.loops.specs.Any.{any};
 ghost use Rattle.loops.specs.Sum.{sum};
-ghost use Rattle.loops.specs.Table.{padded};
 ghost use Rattle.plan.specs.Value.{base, share};
 ghost use Rattle.plan.specs.Faults.{CountsFit};
 ghost use Rattle.plan.specs.Tests.{outside, bad-counts, zero-length, same-entry, bad-order, bad-node, not-above, not-rising, bad-edge};
-ghost use Rattle.plan.specs.Tests.{stands-at, place-of, process-at, home-of, different, q-fits, edges-fit, nodes-fit, order-fits, lengths-fit, plan-fits};
+ghost use Rattle.plan.specs.Tests.{process-at, q-fits, edges-fit, nodes-fit, order-fits, lengths-fit, plan-fits};
 
+#[repr(C)]
 pub struct Plan {
     pub nodes: u16,
     pub processes: u16,
@@ -32,6 +32,13 @@ pub fn wide(x: u16) -> usize
     ensures { λ r. ⌜ r ≡ x ⌝ }
 {
     x as usize
+}
+
+// A table's number, wide enough to add up with.
+pub fn short(x: u16) -> u32
+    ensures { λ r. ⌜ r ≡ x ⌝ }
+{
+    x as u32
 }
 
 // A number below its least value or above its greatest.
@@ -282,29 +289,6 @@ pub fn counter_sum<'a>(
     sum
 }
 
-// A node stands at an order position.
-fn stands_at(order: &[u16; 64], v: usize, i: usize) -> bool
-    requires { ⌜ i < 64 ⌝ }
-    ensures { λ r. ⌜ r ≡ stands-at (now (order .entry)) v i ⌝ }
-{
-    wide(order[i]) == v
-}
-
-// The order position of a node, or the number of nodes where it has none.
-pub fn position_of_node(order: &[u16; 64], nodes: usize, v: usize) -> usize
-    requires { ⌜ nodes ≤ 64 ⌝ }
-    ensures { λ r. ⌜ r ≡ place-of (now (order .entry)) nodes v ⌝ }
-{
-    let mut i: usize = 0;
-    while i < nodes {
-        if stands_at(order, v, i) {
-            return i;
-        }
-        i += 1;
-    }
-    i
-}
-
 // The process of an order position, or the number of processes past the last one's end.
 pub fn process_of_position(lengths: &[u16; 64], processes: usize, i: usize) -> usize
     requires { ⌜ processes ≤ 64 ⌝ }
@@ -320,52 +304,6 @@ pub fn process_of_position(lengths: &[u16; 64], processes: usize, i: usize) -> u
         p += 1;
     }
     p
-}
-
-// The process of a node.
-pub fn home_of_node<'a>(
-    order: &'a [u16; 64],
-    lengths: &'a [u16; 64],
-    nodes: usize,
-    processes: usize,
-    v: usize,
-) -> usize
-    requires { ⌜ (nodes ≤ 64) × (processes ≤ 64) ⌝ }
-    ensures { λ r. ⌜ r ≡ home-of (now (order .entry)) (now (lengths .entry)) nodes processes v ⌝ }
-{
-    let i = position_of_node(order, nodes, v);
-    process_of_position(lengths, processes, i)
-}
-
-// The process of each node, 0 past the count.
-pub fn homes<'a>(
-    order: &'a [u16; 64],
-    lengths: &'a [u16; 64],
-    nodes: usize,
-    processes: usize,
-) -> [u16; 64]
-    requires { ⌜ (nodes ≤ 64) × (processes ≤ 64) ⌝ }
-    ensures { λ r. ⌜ r ≡ padded (home-of (now (order .entry)) (now (lengths .entry)) nodes processes) 64 nodes ⌝ }
-{
-    let mut table: [u16; 64] = [0; 64];
-    let mut v: usize = 0;
-    while v < nodes {
-        table[v] = home_of_node(order, lengths, nodes, processes, v) as u16;
-        v += 1;
-    }
-    table
-}
-
-// An edge's ends are in different processes.
-pub fn synchronising(homes: &[u16; 64], source: usize, destination: usize) -> bool
-    requires { ⌜ (source < 64) × (destination < 64) ⌝ }
-    ensures { λ r. ⌜ r ≡ different (now (homes .entry)) source destination ⌝ }
-{
-    if homes[source] == homes[destination] {
-        false
-    } else {
-        true
-    }
 }
 
 // Its Q is counter 0's sum and at least 1.

@@ -1,0 +1,84 @@
+-- What is worked out of a plan's tables and a state's rows, as lists; and what is asked of those. Definitions only.
+-- Assumes nothing.
+use mathlib.Core.List.{List}
+use mathlib.Core.Bool.{Bool, false}
+use Prim.Native.Nat.{ℕ, _+_, _*_, _≤_, _<_}
+use lib.Dec.{eqb, ltb, leb}
+use lib.ListN.{replicate}
+use Rattle.loops.specs.Choice.{at, if, one-if}
+use Rattle.loops.specs.Sum.{sum}
+use Rattle.loops.specs.Row.{stored}
+use Rattle.loops.specs.Table.{padded}
+use Rattle.plan.specs.Value.{base}
+use Rattle.plan.specs.Tests.{different}
+
+-- ---- entries in range
+-- an entry that is out of range: at or above its limit where it is known, not 0 past the count
+unfoldable pub out-of-range : (ℕ → ℕ) → ℕ → List ℕ → ℕ → Bool
+out-of-range limit count entries k = if (ltb k count) (leb (limit k) (at entries k)) (ltb 0 (at entries k))
+
+-- ---- next nodes and edges to see
+-- the next node of process p
+unfoldable pub next-in : List ℕ → List ℕ → List ℕ → ℕ → ℕ
+next-in order lengths positions p = at order (base lengths p + at positions p)
+
+-- each stands in the order
+pub record NextsOk (lengths positions : List ℕ) (processes : ℕ) : Type 0 where
+  pub processes-most : processes ≤ 64
+  pub stands : (p : ℕ) → p < processes → base lengths p + at positions p < 64
+
+-- 1 where edge e is synchronising, else 0
+unfoldable pub crosses : List ℕ → List ℕ → List ℕ → ℕ → ℕ
+crosses homes source destination e = one-if (different homes (at source e) (at destination e))
+
+-- edges with known ends
+pub record EndsOk (source destination : List ℕ) (edges : ℕ) : Type 0 where
+  pub edges-most : edges ≤ 512
+  pub source-lt : (e : ℕ) → e < edges → at source e < 64
+  pub destination-lt : (e : ℕ) → e < edges → at destination e < 64
+
+-- 1 where edge e is a synchronising in-edge of a node, else 0
+unfoldable pub wanted : List ℕ → List ℕ → ℕ → ℕ → ℕ
+wanted destination crossing node e = if (eqb (at destination e) node) (at crossing e) 0
+
+-- ---- rows of marks
+-- the most that the marks of process p's row may be
+unfoldable pub allowed-row : List ℕ → List ℕ → List ℕ → List ℕ → ℕ → ℕ → ℕ → List ℕ
+allowed-row opened nexts destination crossing processes edges p =
+    if (leb processes p) (replicate 512 0) (if (ltb 0 (at opened p)) (padded (wanted destination crossing (at nexts p)) 512 edges) (replicate 512 0))
+
+-- how many marks of process p's row are above a row
+unfoldable pub row-above : List ℕ → List ℕ → ℕ → ℕ
+row-above allowed marks p = sum (λ e. one-if (ltb (at allowed e) (at marks (512 * p + e)))) 512
+
+-- how many marks of all rows are above what they may be
+unfoldable pub rows-above : List ℕ → List ℕ → List ℕ → List ℕ → List ℕ → ℕ → ℕ → ℕ
+rows-above marks opened nexts destination crossing processes edges =
+    sum (λ p. row-above (allowed-row opened nexts destination crossing processes edges p) marks p) 64
+
+-- how many marks process p's row has
+unfoldable pub row-left : List ℕ → ℕ → ℕ
+row-left marks p = sum (λ e. at marks (512 * p + e)) 512
+
+-- edge e is marked for process p
+unfoldable pub marked-in : List ℕ → ℕ → ℕ → ℕ → Bool
+marked-in marks edges p e = if (leb edges e) false (eqb (at marks (512 * p + e)) 1)
+
+-- the number that a call is turned down with, or 0
+unfoldable pub open-number : ℕ → List ℕ → ℕ → ℕ
+open-number processes opened p = if (leb processes p) 20 (if (eqb (at opened p) 0) 0 21)
+
+unfoldable pub look-number : ℕ → ℕ → List ℕ → List ℕ → ℕ → ℕ → ℕ
+look-number processes edges opened marks p e =
+    if (leb processes p) 20 (if (eqb (at opened p) 0) 22 (if (marked-in marks edges p e) 0 23))
+
+unfoldable pub fire-number : ℕ → List ℕ → List ℕ → ℕ → ℕ
+fire-number processes opened marks p = if (leb processes p) 20 (if (eqb (at opened p) 0) 22 (if (eqb (row-left marks p) 0) 0 24))
+
+-- what a row adds up to
+unfoldable pub row-total : List ℕ → ℕ → ℕ
+row-total row edges = sum (at row) edges
+
+-- the marks with a row stored for process p
+unfoldable pub with-row : List ℕ → List ℕ → ℕ → ℕ → List ℕ
+with-row marks row edges p = stored (at row) (512 * p) marks edges

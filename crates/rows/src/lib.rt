@@ -1,0 +1,336 @@
+// Rows of a state and of a plan, lent: what of them is out of range, which edges are to see, which marks are too many, and how many are left.
+ghost use mathlib.Core.Path.{_≡_};
+ghost use Prim.Native.Nat.{_+_, _<_, _≤_};
+ghost use lib.Dec.{ltb};
+ghost use Rattle.loops.specs.Choice.{at, one-if};
+ghost use Rattle.loops.specs.Sum.{sum};
+ghost use Rattle.loops.specs.Table.{padded};
+ghost use Rattle.plan.specs.Value.{base};
+ghost use Rattle.rows.specs.Lists.{out-of-range, NextsOk, EndsOk, crosses, next-in, wanted, allowed-row, row-above, rows-above, row-left, row-total, with-row};
+
+pub mod refusals;
+
+// 1 where a test is true, else 0.
+fn one_if(test: bool) -> u8
+    ensures { λ r. ⌜ (r ≡ one-if test) × (r ≤ 1) ⌝ }
+{
+    if test { 1 } else { 0 }
+}
+
+// A row's number, wide enough to add up.
+fn byte(x: u8) -> u32
+    ensures { λ r. ⌜ (r ≡ x) × (r ≤ 255) ⌝ }
+{
+    x as u32
+}
+
+// A position at or above its process's length, or not 0 past the processes.
+fn position_bad<'a>(
+    lengths: &'a [u16; 64],
+    processes: u16,
+    positions: &'a [u16; 64],
+    p: usize,
+) -> u8
+    requires { ⌜ p < 64 ⌝ }
+    ensures { λ r. ⌜ (r ≡ one-if (out-of-range (at (now (lengths .entry))) processes (now (positions .entry)) p)) × (r ≤ 1) ⌝ }
+{
+    if (p as u16) < processes {
+        one_if(lengths[p] <= positions[p])
+    } else {
+        one_if(0 < positions[p])
+    }
+}
+
+// How many positions are out of range.
+pub fn positions_bad<'a>(lengths: &'a [u16; 64], processes: u16, positions: &'a [u16; 64]) -> u32
+    ensures { λ r. ⌜ r ≡ sum (λ p. one-if (out-of-range (at (now (lengths .entry))) processes (now (positions .entry)) p)) 64 ⌝ }
+{
+    let mut bad: u32 = 0;
+    let mut p: usize = 0;
+    while p < 64 {
+        bad += position_bad(lengths, processes, positions, p) as u32;
+        p += 1;
+    }
+    bad
+}
+
+// An open flag above 1, or not 0 past the processes.
+fn flag_bad(processes: u16, opened: &[u8; 64], p: usize) -> u8
+    requires { ⌜ p < 64 ⌝ }
+    ensures { λ r. ⌜ (r ≡ one-if (out-of-range (λ k. 2) processes (now (opened .entry)) p)) × (r ≤ 1) ⌝ }
+{
+    if (p as u16) < processes {
+        one_if(2 <= opened[p])
+    } else {
+        one_if(0 < opened[p])
+    }
+}
+
+// How many open flags are out of range.
+pub fn flags_bad(processes: u16, opened: &[u8; 64]) -> u32
+    ensures { λ r. ⌜ r ≡ sum (λ p. one-if (out-of-range (λ k. 2) processes (now (opened .entry)) p)) 64 ⌝ }
+{
+    let mut bad: u32 = 0;
+    let mut p: usize = 0;
+    while p < 64 {
+        bad += flag_bad(processes, opened, p) as u32;
+        p += 1;
+    }
+    bad
+}
+
+// A counter at or above N, or not 0 past the counters.
+fn counter_bad(modulus: u32, count: u16, counters: &[u32; 64], c: usize) -> u8
+    requires { ⌜ c < 64 ⌝ }
+    ensures { λ r. ⌜ (r ≡ one-if (out-of-range (λ k. modulus) count (now (counters .entry)) c)) × (r ≤ 1) ⌝ }
+{
+    if (c as u16) < count {
+        one_if(modulus <= counters[c])
+    } else {
+        one_if(0 < counters[c])
+    }
+}
+
+// How many counters are out of range.
+pub fn counters_bad(modulus: u32, count: u16, counters: &[u32; 64]) -> u32
+    ensures { λ r. ⌜ r ≡ sum (λ c. one-if (out-of-range (λ k. modulus) count (now (counters .entry)) c)) 64 ⌝ }
+{
+    let mut bad: u32 = 0;
+    let mut c: usize = 0;
+    while c < 64 {
+        bad += counter_bad(modulus, count, counters, c) as u32;
+        c += 1;
+    }
+    bad
+}
+
+// 1 where an edge's ends are in different processes, else 0.
+fn crosses<'a>(
+    homes: &'a [u16; 64],
+    source: &'a [u16; 512],
+    destination: &'a [u16; 512],
+    e: usize,
+) -> u8
+    requires { ⌜ (e < 512) × (at (now source) e < 64) × (at (now destination) e < 64) ⌝ }
+    ensures { λ r. ⌜ r ≡ crosses (now (homes .entry)) (now (source .entry)) (now (destination .entry)) e ⌝ }
+{
+    one_if(seats::synchronising(homes, plan::wide(source[e]), plan::wide(destination[e])))
+}
+
+// For each edge 1 where it is synchronising, else 0.
+pub fn crossing_row<'a>(
+    homes: &'a [u16; 64],
+    source: &'a [u16; 512],
+    destination: &'a [u16; 512],
+    edges: usize,
+) -> [u8; 512]
+    requires { ⌜ EndsOk (now source) (now destination) edges ⌝ }
+    ensures { λ r. ⌜ r ≡ padded (crosses (now (homes .entry)) (now (source .entry)) (now (destination .entry))) 512 edges ⌝ }
+{
+    let mut row: [u8; 512] = [0; 512];
+    let mut e: usize = 0;
+    while e < edges {
+        row[e] = crosses(homes, source, destination, e);
+        e += 1;
+    }
+    row
+}
+
+// The next node of a process.
+pub fn next_node<'a>(
+    order: &'a [u16; 64],
+    lengths: &'a [u16; 64],
+    positions: &'a [u16; 64],
+    p: usize,
+) -> u16
+    requires { ⌜ (p < 64) × (base (now lengths) p + at (now positions) p < 64) ⌝ }
+    ensures { λ r. ⌜ r ≡ next-in (now (order .entry)) (now (lengths .entry)) (now (positions .entry)) p ⌝ }
+{
+    let start = plan::lengths_sum(lengths, p);
+    order[start + plan::wide(positions[p])]
+}
+
+// The next node of each process.
+pub fn next_nodes<'a>(
+    order: &'a [u16; 64],
+    lengths: &'a [u16; 64],
+    positions: &'a [u16; 64],
+    processes: usize,
+) -> [u16; 64]
+    requires { ⌜ NextsOk (now lengths) (now positions) processes ⌝ }
+    ensures { λ r. ⌜ r ≡ padded (next-in (now (order .entry)) (now (lengths .entry)) (now (positions .entry))) 64 processes ⌝ }
+{
+    let mut nexts: [u16; 64] = [0; 64];
+    let mut p: usize = 0;
+    while p < processes {
+        nexts[p] = next_node(order, lengths, positions, p);
+        p += 1;
+    }
+    nexts
+}
+
+// 1 where an edge is a synchronising in-edge of a node, else 0.
+fn wanted<'a>(destination: &'a [u16; 512], crossing: &'a [u8; 512], node: u16, e: usize) -> u8
+    requires { ⌜ e < 512 ⌝ }
+    ensures { λ r. ⌜ r ≡ wanted (now (destination .entry)) (now (crossing .entry)) node e ⌝ }
+{
+    if destination[e] == node {
+        crossing[e]
+    } else {
+        0
+    }
+}
+
+// For each edge 1 where it is a synchronising in-edge of a node, else 0.
+pub fn wanted_row<'a>(
+    destination: &'a [u16; 512],
+    crossing: &'a [u8; 512],
+    node: u16,
+    edges: usize,
+) -> [u8; 512]
+    requires { ⌜ edges ≤ 512 ⌝ }
+    ensures { λ r. ⌜ r ≡ padded (wanted (now (destination .entry)) (now (crossing .entry)) node) 512 edges ⌝ }
+{
+    let mut row: [u8; 512] = [0; 512];
+    let mut e: usize = 0;
+    while e < edges {
+        row[e] = wanted(destination, crossing, node, e);
+        e += 1;
+    }
+    row
+}
+
+// For each edge the most that a process's mark may be.
+fn allowed_row<'a>(
+    opened: &'a [u8; 64],
+    nexts: &'a [u16; 64],
+    destination: &'a [u16; 512],
+    crossing: &'a [u8; 512],
+    processes: usize,
+    edges: usize,
+    p: usize,
+) -> [u8; 512]
+    requires { ⌜ (p < 64) × (edges ≤ 512) ⌝ }
+    ensures { λ r. ⌜ r ≡ allowed-row (now (opened .entry)) (now (nexts .entry)) (now (destination .entry)) (now (crossing .entry)) processes edges p ⌝ }
+{
+    if processes <= p {
+        return [0; 512];
+    }
+    if 0 < opened[p] {
+        return wanted_row(destination, crossing, nexts[p], edges);
+    }
+    [0; 512]
+}
+
+// 1 where a mark is above what it may be, else 0.
+fn above(allowed: u8, mark: u8) -> u32
+    ensures { λ r. ⌜ (r ≡ one-if (ltb allowed mark)) × (r ≤ 1) ⌝ }
+{
+    if allowed < mark { 1 } else { 0 }
+}
+
+// How many marks of a process's row are above what they may be.
+fn row_above<'a>(allowed: &'a [u8; 512], marks: &'a [u8; 32768], p: usize) -> u32
+    requires { ⌜ p < 64 ⌝ }
+    ensures { λ r. ⌜ (r ≡ row-above (now (allowed .entry)) (now (marks .entry)) p) × (r ≤ 512) ⌝ }
+{
+    let base = 512 * p;
+    let mut excess: u32 = 0;
+    let mut e: usize = 0;
+    while e < 512 {
+        excess += above(allowed[e], marks[base + e]);
+        e += 1;
+    }
+    excess
+}
+
+// How many marks of a process's row are not allowed.
+fn row_excess<'a>(
+    marks: &'a [u8; 32768],
+    opened: &'a [u8; 64],
+    nexts: &'a [u16; 64],
+    destination: &'a [u16; 512],
+    crossing: &'a [u8; 512],
+    processes: usize,
+    edges: usize,
+    p: usize,
+) -> u32
+    requires { ⌜ (p < 64) × (edges ≤ 512) ⌝ }
+    ensures { λ r. ⌜ (r ≡ row-above (allowed-row (now (opened .entry)) (now (nexts .entry)) (now (destination .entry)) (now (crossing .entry)) processes edges p) (now (marks .entry)) p) × (r ≤ 512) ⌝ }
+{
+    let allowed = allowed_row(opened, nexts, destination, crossing, processes, edges, p);
+    row_above(&allowed, marks, p)
+}
+
+// How many marks of all rows are not allowed.
+pub fn rows_excess<'a>(
+    marks: &'a [u8; 32768],
+    opened: &'a [u8; 64],
+    nexts: &'a [u16; 64],
+    destination: &'a [u16; 512],
+    crossing: &'a [u8; 512],
+    processes: usize,
+    edges: usize,
+) -> u32
+    requires { ⌜ edges ≤ 512 ⌝ }
+    ensures { λ r. ⌜ r ≡ rows-above (now (marks .entry)) (now (opened .entry)) (now (nexts .entry)) (now (destination .entry)) (now (crossing .entry)) processes edges ⌝ }
+{
+    let mut excess: u32 = 0;
+    let mut row: usize = 0;
+    while row < 64 {
+        excess += row_excess(
+            marks,
+            opened,
+            nexts,
+            destination,
+            crossing,
+            processes,
+            edges,
+            row,
+        );
+        row += 1;
+    }
+    excess
+}
+
+// How many edges of a row are wanted.
+pub fn row_sum(row: &[u8; 512], edges: usize) -> u32
+    requires { ⌜ edges ≤ 512 ⌝ }
+    ensures { λ r. ⌜ r ≡ row-total (now (row .entry)) edges ⌝ }
+{
+    let mut total: u32 = 0;
+    let mut e: usize = 0;
+    while e < edges {
+        total += byte(row[e]);
+        e += 1;
+    }
+    total
+}
+
+// How many marks a process's row has.
+pub fn marks_left(marks: &[u8; 32768], p: usize) -> u32
+    requires { ⌜ p < 64 ⌝ }
+    ensures { λ r. ⌜ r ≡ row-left (now (marks .entry)) p ⌝ }
+{
+    let row = 512 * p;
+    let mut left: u32 = 0;
+    let mut k: usize = 0;
+    while k < 512 {
+        left += byte(marks[row + k]);
+        k += 1;
+    }
+    left
+}
+
+// Marks the wanted edges in a process's row.
+pub fn mark_row<'a>(marks: &'a mut [u8; 32768], row: &'a [u8; 512], edges: usize, p: usize)
+    requires { ⌜ (p < 64) × (edges ≤ 512) ⌝ }
+    ensures { λ r. ⌜ now (marks .exit) ≡ with-row (now (marks .entry)) (now (row .entry)) edges p ⌝ }
+{
+    let base = 512 * p;
+    let mut e: usize = 0;
+    while e < edges {
+        marks[base + e] = row[e];
+        e += 1;
+    }
+}

@@ -1,0 +1,74 @@
+// Where each node stands: its order position, its process, and whether an edge's ends are in different processes.
+ghost use mathlib.Core.Path.{_≡_};
+ghost use Prim.Native.Nat.{_<_, _≤_};
+ghost use Rattle.loops.specs.Table.{padded};
+ghost use Rattle.plan.specs.Tests.{stands-at, place-of, home-of, different};
+
+// A node stands at an order position.
+fn stands_at(order: &[u16; 64], v: usize, i: usize) -> bool
+    requires { ⌜ i < 64 ⌝ }
+    ensures { λ r. ⌜ r ≡ stands-at (now (order .entry)) v i ⌝ }
+{
+    plan::wide(order[i]) == v
+}
+
+// The order position of a node, or the number of nodes where it has none.
+pub fn position_of_node(order: &[u16; 64], nodes: usize, v: usize) -> usize
+    requires { ⌜ nodes ≤ 64 ⌝ }
+    ensures { λ r. ⌜ r ≡ place-of (now (order .entry)) nodes v ⌝ }
+{
+    let mut i: usize = 0;
+    while i < nodes {
+        if stands_at(order, v, i) {
+            return i;
+        }
+        i += 1;
+    }
+    i
+}
+
+// The process of a node.
+pub fn home_of_node<'a>(
+    order: &'a [u16; 64],
+    lengths: &'a [u16; 64],
+    nodes: usize,
+    processes: usize,
+    v: usize,
+) -> usize
+    requires { ⌜ (nodes ≤ 64) × (processes ≤ 64) ⌝ }
+    ensures { λ r. ⌜ r ≡ home-of (now (order .entry)) (now (lengths .entry)) nodes processes v ⌝ }
+{
+    let i = position_of_node(order, nodes, v);
+    plan::process_of_position(lengths, processes, i)
+}
+
+// The process of each node, 0 past the count.
+pub fn homes<'a>(
+    order: &'a [u16; 64],
+    lengths: &'a [u16; 64],
+    nodes: usize,
+    processes: usize,
+) -> [u16; 64]
+    requires { ⌜ (nodes ≤ 64) × (processes ≤ 64) ⌝ }
+    ensures { λ r. ⌜ r ≡ padded (home-of (now (order .entry)) (now (lengths .entry)) nodes processes) 64 nodes ⌝ }
+{
+    let mut table: [u16; 64] = [0; 64];
+    let mut v: usize = 0;
+    while v < nodes {
+        table[v] = home_of_node(order, lengths, nodes, processes, v) as u16;
+        v += 1;
+    }
+    table
+}
+
+// An edge's ends are in different processes.
+pub fn synchronising(homes: &[u16; 64], source: usize, destination: usize) -> bool
+    requires { ⌜ (source < 64) × (destination < 64) ⌝ }
+    ensures { λ r. ⌜ r ≡ different (now (homes .entry)) source destination ⌝ }
+{
+    if homes[source] == homes[destination] {
+        false
+    } else {
+        true
+    }
+}
