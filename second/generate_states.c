@@ -116,18 +116,25 @@ static void put_requests(struct random *random, const struct second_plan *plan,
     }
 }
 
-/* A plan and state in shape, or one of them spoiled. */
+/* A plan and state in shape, or one of them spoiled or at a limit. */
 static void draw_record(struct random *random)
 {
     static struct second_plan plan;
     static struct second_state state;
-    uint32_t style = random_below(random, 5);
-    made_plan(random, &plan);
+    uint32_t style = random_below(random, 8);
+    if (style == 4 && random_one_in(random, 4))
+        made_full_plan(random, &plan);
+    else
+        made_plan(random, &plan);
     made_state(random, &plan, &state);
     if (style == 0)
         spoil_state(random, random_below(random, STATE_FAULTS), &plan, &state);
     if (style == 1)
         spoil_plan(random, random_below(random, PLAN_FAULTS), &plan);
+    if (style == 2)
+        limit_state(random, random_below(random, STATE_LIMITS), &plan, &state);
+    if (style == 3)
+        limit_plan(random, random_below(random, PLAN_LIMITS), &plan);
     length = 0;
     put_plan(&plan);
     put_state(&state);

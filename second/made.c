@@ -66,13 +66,13 @@ static void litter(struct random *random, struct second_plan *plan)
         plan->source[i] = plan->target[i] = plan->tokens[i] = waste;
 }
 
-void made_plan(struct random *random, struct second_plan *plan)
+/* A plan in shape that has what is wished for. */
+static void made_plan_like(struct random *random, const struct wish *wish,
+                           struct second_plan *plan)
 {
     struct sketch sketch;
-    struct wish wish = {0};
-    wish.most_nodes = random_one_in(random, 3) ? 64 : 8;
     do {
-        draw_plan(random, &wish, &sketch);
+        draw_plan(random, wish, &sketch);
         if (random_one_in(random, 2))
             bend_sketch(random, &sketch);
     } while (sketch_sum(&sketch, 0) == 0);
@@ -81,6 +81,21 @@ void made_plan(struct random *random, struct second_plan *plan)
     made_plan_of(&sketch, plan);
     if (random_one_in(random, 2))
         litter(random, plan);
+}
+
+void made_plan(struct random *random, struct second_plan *plan)
+{
+    struct wish wish = {0};
+    wish.most_nodes = random_one_in(random, 3) ? 64 : 8;
+    made_plan_like(random, &wish, plan);
+}
+
+void made_full_plan(struct random *random, struct second_plan *plan)
+{
+    struct wish wish = {0};
+    wish.nodes = SECOND_NODES;
+    wish.edges = SECOND_EDGES;
+    made_plan_like(random, &wish, plan);
 }
 
 /* The process and the order position of each node. */
@@ -275,4 +290,65 @@ int spoil_state(struct random *random, uint32_t way,
                                       SECOND_COUNTERS - 1)] = 1;
     }
     return 1;
+}
+
+/* A count past its bound: 65,536 more, so that its low two bytes are as
+   before, or the highest. */
+static void limit_count(uint32_t way, struct second_plan *plan)
+{
+    uint32_t *counts[] = {&plan->nodes, &plan->processes, &plan->edges,
+                          &plan->counters};
+    if (way < 4)
+        *counts[way] += 65536;
+    else
+        *counts[way - 4] = UINT32_MAX;
+}
+
+void limit_plan(struct random *random, uint32_t way, struct second_plan *plan)
+{
+    uint32_t node = random_below(random, plan->nodes);
+    uint32_t edge = random_below(random, plan->edges);
+    uint32_t process = random_below(random, plan->processes);
+    switch (way) {
+    case 8: plan->modulus = UINT32_MAX; break;
+    case 9: plan->modulus = SECOND_MODULUS + 1; break;
+    case 10: plan->round_sum = UINT32_MAX; break;
+    case 11: plan->length[process] = 65535; break;
+    case 12: plan->order[node] = 65535; break;
+    case 13: plan->counter[node] = 65535; break;
+    case 14: plan->increment[node] = 65535; break;
+    case 15: plan->source[edge] = 65535; break;
+    case 16: plan->target[edge] = 65535; break;
+    case 17: plan->tokens[edge] = 65535; break;
+    case 18: plan->edges = SECOND_EDGES + 1; break;
+    default: limit_count(way, plan);
+    }
+}
+
+/* A value on a mark that is there, or on any edge where none is. */
+static void limit_mark(struct random *random, uint8_t value,
+                       const struct second_plan *plan,
+                       struct second_state *state)
+{
+    uint32_t p = random_below(random, plan->processes);
+    uint32_t edge = random_below(random, plan->edges);
+    for (uint32_t e = 0; e < plan->edges; e++)
+        if (state->mark[p][e])
+            edge = e;
+    state->mark[p][edge] = value;
+}
+
+void limit_state(struct random *random, uint32_t way,
+                 const struct second_plan *plan, struct second_state *state)
+{
+    uint32_t p = random_below(random, plan->processes);
+    switch (way) {
+    case 0: state->position[p] = 65535; break;
+    case 1: state->open[p] = 2; break;
+    case 2: state->open[p] = 255; break;
+    case 3: limit_mark(random, 2, plan, state); break;
+    case 4: limit_mark(random, 255, plan, state); break;
+    default:
+        state->counter[random_below(random, plan->counters)] = UINT32_MAX;
+    }
 }

@@ -1,0 +1,94 @@
+// Answers a stream of made-up plan values, states and requests, for comparison with the second program. The stream is, again and again, a
+// length of four bytes and a record of that many bytes, at most 65,536; the record is described in `record.rt`. For each it writes a line
+// `case K`, K from 0, a line for each request, and the state that the requests leave. A stream that is cut has come to its end.
+ghost use Prim.Native.Nat.{_≤_};
+use libc::STDIN_FILENO;
+
+mod answers;
+mod record;
+mod states;
+mod text;
+
+// The length of the next record, or the stream's end.
+enum Next {
+    Record { length: usize },
+    End,
+}
+
+// The place behind what was put, and whether the stream may go on.
+struct Done {
+    more: bool,
+    place: usize,
+}
+
+// The length of the next record.
+fn next_record() -> Next {
+    let mut bytes = [0u8; 4];
+    let got = io::read_full(STDIN_FILENO, &mut bytes);
+    if got < 4 {
+        return Next::End;
+    }
+    Next::Record {
+        length: record::length_in(&bytes),
+    }
+}
+
+// The text of one record.
+fn put_case(
+    number: u32,
+    record: &[u8; 65536],
+    length: usize,
+    out: &mut [u8; 65536],
+    place: usize,
+) -> usize
+    requires { ⌜ length ≤ 65536 ⌝ }
+{
+    let behind_number = text::put_line(out, place, b"case ", number);
+    let plan = record::plan_in(record);
+    let state = record::state_in(record);
+    let answered = answers::put_requests(plan, state, record, length, out, behind_number);
+    let after = answered.state;
+    states::put_state(after, out, answered.place)
+}
+
+// Reads a record and puts its text. A record that is too long or cut ends the stream.
+fn answer_case(number: u32, length: usize, out: &mut [u8; 65536], place: usize) -> Done {
+    if 65536 < length {
+        return Done { more: false, place };
+    }
+    let mut record = io::large_buffer();
+    let got = io::read_full(STDIN_FILENO, &mut record[..length]);
+    if got < length {
+        return Done { more: false, place };
+    }
+    let next = put_case(number, &record, length, out, place);
+    Done {
+        more: true,
+        place: next,
+    }
+}
+
+// Answers every record; the place behind what is not yet written.
+fn answer_all(out: &mut [u8; 65536]) -> usize {
+    let mut place: usize = 0;
+    let mut number: u32 = 0;
+    while number < 4294967295 {
+        let Next::Record { length } = next_record() else {
+            return place;
+        };
+        let done = answer_case(number, length, out, place);
+        place = done.place;
+        if !done.more {
+            return place;
+        }
+        number += 1;
+    }
+    place
+}
+
+// Answers the stream on standard input and writes what is left in the buffer.
+fn main() {
+    let mut out = io::large_buffer();
+    let place = answer_all(&mut out);
+    text::write_rest(&out, place);
+}

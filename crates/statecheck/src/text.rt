@@ -1,0 +1,55 @@
+// Bytes, words and numbers collected in a buffer. A full buffer is written to standard output and begun again.
+use libc::STDOUT_FILENO;
+
+// One byte.
+pub fn put(out: &mut [u8; 65536], place: usize, byte: u8) -> usize {
+    if place < 65536 {
+        out[place] = byte;
+        return place + 1;
+    }
+    io::write_all(STDOUT_FILENO, out);
+    out[0] = byte;
+    1
+}
+
+// A word.
+pub fn put_word(out: &mut [u8; 65536], place: usize, word: &[u8]) -> usize {
+    let mut next = place;
+    let mut i: usize = 0;
+    while i < word.len() {
+        next = put(out, next, word[i]);
+        i += 1;
+    }
+    next
+}
+
+// A number in decimal digits.
+pub fn put_decimal(out: &mut [u8; 65536], place: usize, n: u32) -> usize {
+    let mut digits = [0u8; 20];
+    let count = io::decimal(n as u64, &mut digits);
+    put_word(out, place, &digits[..count])
+}
+
+// A number and the byte behind it.
+pub fn put_number(out: &mut [u8; 65536], place: usize, n: u32, byte: u8) -> usize {
+    let next = put_decimal(out, place, n);
+    put(out, next, byte)
+}
+
+// A word, a number and the line's end.
+pub fn put_line(out: &mut [u8; 65536], place: usize, word: &[u8], n: u32) -> usize {
+    let next = put_word(out, place, word);
+    put_number(out, next, n, b'\n')
+}
+
+// Writes the bytes before a place.
+fn write_part(out: &[u8], place: usize) {
+    if place <= out.len() {
+        io::write_all(STDOUT_FILENO, &out[..place]);
+    }
+}
+
+// Writes what was put since the buffer was last full.
+pub fn write_rest(out: &[u8; 65536], place: usize) {
+    write_part(out, place);
+}
