@@ -1,9 +1,11 @@
-/* Tamsklor for the recorder's host in C: the plan check.
+/* Tamsklor for the recorder's host in C: the plan check, the plan of an image,
+   and a run of a plan by single calls.
 
    Link with the archive that `rt staticlib host` writes,
    target/staticlib/libhost.a (x86-64 Linux).
 
-   What no check can see, and the caller answers for:
+   Nothing need be checked before a call: every image, plan value, state and
+   number is answered. What no check can see, and the caller answers for:
    - `image` points to `length` bytes that can be read, and nothing writes to
      them before the call returns. Bytes of a mapped file are lent only where
      nobody can write or shorten that file meanwhile; else copy them first.
@@ -11,11 +13,18 @@
      the kit's guide to the libraries says that an empty slice may have a null
      or a dangling pointer, and the length is tested before any byte is read.
      The answer is 1 at 0. NULL with another length is a fault of the caller.
-   - The stack has room for the call (bench/README.md says how much).
+   - `plan` and `state` of run_step point to a whole struct each, aligned as C
+     aligns it, every byte of it set; never NULL. They do not overlap. Nothing
+     writes to the plan, and nothing reads or writes the state, before the
+     call returns: one caller at a time for one state.
+   - The stack has room for the call (bench/README.md says how much). Structs
+     by value lie on it too: a state has 33,220 bytes.
 
-   The call writes to no byte of the image. It keeps no state, takes no lock,
-   asks for no memory and calls nothing of the system: any number of threads
-   may call it at once, on one image or on several. It always returns. */
+   The calls write to no byte of the image or of the plan, and to none of the
+   state but in run_step. They keep no state of their own, take no lock, ask
+   for no memory and call nothing of the system: any number of threads may
+   call them at once, on one image or plan or on several, each thread with a
+   state of its own. They always return. */
 #ifndef TAMSKLOR_H
 #define TAMSKLOR_H
 
@@ -25,6 +34,16 @@
 #ifdef __cplusplus
 extern "C" {
 #endif
+
+/* Room in the tables, and the bytes of the two large structs. */
+enum plan_size {
+    PLAN_NODES = 64,
+    PLAN_PROCESSES = 64,
+    PLAN_EDGES = 512,
+    PLAN_COUNTERS = 64,
+    PLAN_VALUE_BYTES = 3600,
+    RUN_STATE_BYTES = 33220
+};
 
 /* The answer: the lowest number that applies and within it the lowest place,
    or 0 and the least modulus. */
@@ -73,6 +92,122 @@ enum plan_number {
 
 /* The plan check over the image's bytes. */
 struct plan_verdict plan_check(const uint8_t *image, size_t length);
+
+/* A plan value: counts, N, Q and the tables. Entries past the counts are
+   neither tested nor used. */
+struct plan_value {
+    uint16_t nodes;
+    uint16_t processes;
+    uint16_t edges;
+    uint16_t counters;
+    uint32_t modulus;                  /* N */
+    uint32_t q;                        /* counter 0's sum */
+    uint16_t lengths[PLAN_PROCESSES];  /* nodes of each process */
+    uint16_t order[PLAN_NODES];        /* node numbers, process by process */
+    uint16_t counter[PLAN_NODES];      /* of each node */
+    uint16_t increment[PLAN_NODES];    /* of each node */
+    uint16_t source[PLAN_EDGES];       /* of each edge */
+    uint16_t destination[PLAN_EDGES];  /* of each edge */
+    uint16_t tokens[PLAN_EDGES];       /* of each edge, at the start */
+};
+
+/* The plan check's answer with the plan beside it: the image's tables with 0
+   past the counts, and all 0 after a refusal. */
+struct plan_reading {
+    uint32_t number;
+    uint32_t place;
+    uint32_t least;
+    struct plan_value plan;
+};
+
+/* The plan of an image. */
+struct plan_reading plan_read(const uint8_t *image, size_t length);
+
+/* A run's state. Anything may be handed in: a state out of shape is refused
+   with 25. */
+struct run_state {
+    uint16_t positions[PLAN_PROCESSES];        /* inside each process, from 0 */
+    uint8_t opened[PLAN_PROCESSES];            /* 1 open, 0 closed */
+    uint8_t marks[PLAN_PROCESSES][PLAN_EDGES]; /* 1 where an edge is to see */
+    uint32_t counters[PLAN_COUNTERS];
+    uint32_t turn; /* raised by each call not refused; after 4294967295: 0 */
+};
+
+/* What a call, a beginning or a reading is turned down with. */
+enum run_number {
+    RUN_ACCEPTED = 0,
+    /* unknown process */
+    RUN_UNKNOWN_PROCESS = 20,
+    /* open on an open process */
+    RUN_ALREADY_OPEN = 21,
+    /* look or fire on a closed one */
+    RUN_NOT_OPEN = 22,
+    /* look at an edge that isn't marked for it */
+    RUN_NOT_MARKED = 23,
+    /* fire with marks left */
+    RUN_MARKS_LEFT = 24,
+    /* plan or state out of shape: tested before 20 to 24 and 27 */
+    RUN_OUT_OF_SHAPE = 25,
+    /* code above 2: before all else */
+    RUN_UNKNOWN_CODE = 26,
+    /* token reading of an edge that is unknown or not synchronising */
+    RUN_NOT_SYNCHRONISING = 27
+};
+
+/* A beginning's answer. */
+struct run_begun {
+    uint32_t number;        /* RUN_ACCEPTED or RUN_OUT_OF_SHAPE */
+    struct run_state state; /* all 0: the fresh state, or none */
+};
+
+/* Begins a run; RUN_OUT_OF_SHAPE where the plan is out of shape. */
+struct run_begun run_begin(struct plan_value plan);
+
+/* The calls. */
+enum run_code {
+    /* marks the synchronising in-edges of the process's next node */
+    RUN_OPEN = 0,
+    /* tests one edge; the mark goes where it is found */
+    RUN_LOOK = 1,
+    /* fires the next node, closes the process, moves on */
+    RUN_FIRE = 2
+};
+
+/* What a call's answer is, and then its value. */
+enum run_kind {
+    /* the number, 20 to 26; the state is as it was */
+    RUN_REFUSED = 0,
+    /* how many edges are marked */
+    RUN_OPENED = 1,
+    /* how many are left */
+    RUN_FOUND = 2,
+    /* how many are left */
+    RUN_WAIT = 3,
+    /* the node */
+    RUN_FIRED = 4
+};
+
+/* A call's answer. */
+struct run_answer {
+    uint32_t kind;
+    uint32_t value;
+};
+
+/* One call on a state, updated where it stands. `edge` is ignored by open and
+   fire. */
+struct run_answer run_step(const struct plan_value *plan,
+                           struct run_state *state, uint32_t code,
+                           uint32_t process, uint32_t edge);
+
+/* A token reading's answer. */
+struct run_token_answer {
+    uint32_t number; /* RUN_ACCEPTED, 25 or 27 */
+    uint32_t count;  /* tokens on the edge; 0 if refused */
+};
+
+/* The token reading of a synchronising edge, for the service screen. */
+struct run_token_answer run_tokens(struct plan_value plan,
+                                   struct run_state state, uint32_t edge);
 
 #ifdef __cplusplus
 }

@@ -19,7 +19,8 @@ use Rattle.plan.specs.Formed.{Tabled, shaped}
 use Rattle.plan.specs.Seating.{sits, sits-unique, synchronises-exactly}
 use Rattle.conditions.specs.Conditions.{C1, C2, C3}
 use Rattle.conditions.specs.Faults.{Fault10, Fault11, Fault12}
-use Rattle.conditions.specs.Tests.{has-counter, strays, bad-counter, sends, bad-increment, bad-sum}
+use Rattle.rounds.specs.Lent.{has-counter}
+use Rattle.conditions.specs.Tests.{strays, bad-counter, sends, bad-increment, bad-sum}
 
 module _ (pl : Plan) (t : Tabled pl) where
   -- the first node of a counter

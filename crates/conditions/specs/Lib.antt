@@ -9,8 +9,5 @@ pub mod Least
 pub mod Exactly
 pub mod Connected
 pub mod Lent
-pub mod Positions
-pub mod Sums
-pub mod Bounds
 pub mod Reading
 pub mod Refusing

@@ -21,7 +21,8 @@ use Rattle.plan.specs.Tests.{process-at}
 use Rattle.plan.specs.Formed.{Tabled}
 use Rattle.plan.specs.Seating.{process-at-lt, ends-after, begins-before, process-at-is, within, has-processes}
 use Rattle.conditions.specs.Faults.{ProcessEdge, Fault9}
-use Rattle.conditions.specs.Tests.{is-edge, is-last, next-position, edge-tokens, bad-position}
+use Rattle.rounds.specs.Lent.{is-edge, is-last, next-position, edge-tokens}
+use Rattle.conditions.specs.Tests.{bad-position}
 
 module _ (pl : Plan) where
   -- the search for an edge finds one exactly where there is one

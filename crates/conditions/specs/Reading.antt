@@ -22,8 +22,12 @@ use Rattle.plan.specs.Seating.{home-table, home-table-at, different-is}
 use Rattle.routes.specs.Rows.{no-route}
 use Rattle.routes.specs.Relaxing.{EndsInRow}
 use Rattle.routes.specs.Settling.{row-most}
-use Rattle.conditions.specs.Tests.{has-counter, bad-position, strays, bad-counter, sends, bad-increment, bad-sum, loop-sum, closes-free, on-free-cycle, no-way-back, not-multiple, not-above-bound, asks, least-modulus}
-use Rattle.conditions.specs.Lent.{lacks-edge, strays-in, bad-counter-in, crosses, sends-in, bad-increment-in, bad-sum-in, loop-sum-in, closes-free-in, on-free-cycle-in, no-way-back-in, not-above-in, asks-in, most-asked, sum-table, crossing-table, Small}
+use Rattle.rounds.specs.Lent.{has-counter}
+use Rattle.conditions.specs.Tests.{bad-position, strays, bad-counter, sends, bad-increment, bad-sum, loop-sum, closes-free, on-free-cycle, no-way-back, not-multiple, not-above-bound, asks, least-modulus}
+use Rattle.rounds.specs.Lent.{lacks-edge, strays-in, bad-counter-in, sends-in, bad-increment-in, bad-sum-in}
+use Rattle.seats.specs.Crossing.{crosses}
+use Rattle.cycles.specs.Lent.{loop-sum-in, closes-free-in, on-free-cycle-in, no-way-back-in, not-above-in, asks-in, most-asked, Small}
+use Rattle.conditions.specs.Lent.{sum-table, crossing-table}
 
 -- "not" as a choice
 if-not : (t : Bool) → if t false true ≡ not t

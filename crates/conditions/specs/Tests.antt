@@ -9,27 +9,12 @@ use Rattle.loops.specs.First.{first}
 use Rattle.loops.specs.Any.{any}
 use Rattle.loops.specs.Fold.{fold}
 use Rattle.plan.specs.declared.Plan.{Plan}
-use Rattle.plan.specs.Value.{base, counter-sum}
-use Rattle.plan.specs.Tests.{process-at, home, synchronises}
+use Rattle.plan.specs.Value.{counter-sum}
+use Rattle.plan.specs.Tests.{home, synchronises}
 use Rattle.routes.specs.Rows.{no-route, emptiest-row}
+use Rattle.rounds.specs.Lent.{is-edge, next-position, edge-tokens, has-counter}
 use Rattle.conditions.specs.declared.Answer.{Answer}
 use Rattle.conditions.specs.declared.Answer.the-variants.{Accepted, Refused}
-
--- edge e leads from m to n with t tokens
-unfoldable pub is-edge : List ℕ → List ℕ → List ℕ → ℕ → ℕ → ℕ → ℕ → Bool
-is-edge source destination tokens m n t e = both (eqb (at source e) m) (both (eqb (at destination e) n) (eqb (at tokens e) t))
-
--- position i is the last of its process
-unfoldable pub is-last : List ℕ → ℕ → ℕ → Bool
-is-last lengths processes i = eqb (suc i) (base lengths (suc (process-at lengths processes i)))
-
--- the position that fires after position i: the next, or the first of the process
-unfoldable pub next-position : List ℕ → ℕ → ℕ → ℕ
-next-position lengths processes i = if (is-last lengths processes i) (base lengths (process-at lengths processes i)) (suc i)
-
--- the tokens that the process edge from position i starts with
-unfoldable pub edge-tokens : List ℕ → ℕ → ℕ → ℕ
-edge-tokens lengths processes i = if (is-last lengths processes i) 1 0
 
 -- number 9: no such edge
 unfoldable pub bad-position : Plan → ℕ → Bool
@@ -38,9 +23,6 @@ bad-position pl i =
     (at (pl .order) (next-position (pl .lengths) (pl .processes) i)) (edge-tokens (pl .lengths) (pl .processes) i)) (pl .edges))
 
 -- number 10: a node of counter c is not in the process of the first such node
-unfoldable pub has-counter : List ℕ → ℕ → ℕ → Bool
-has-counter counter c v = eqb (at counter v) c
-
 unfoldable pub strays : Plan → ℕ → ℕ → Bool
 strays pl c v = both (has-counter (pl .counter) c v) (not (eqb (home pl v) (home pl (first (has-counter (pl .counter) c) (pl .nodes)))))
 

@@ -19,7 +19,7 @@ use Rattle.machine.specs.declared.State.{State}
 use Rattle.machine.specs.States.{StateInShape}
 use Rattle.machine.specs.Calls.{position-bad, state-fits, both-fit}
 use Rattle.machine.specs.ShapeTest.{nowhere, in-range, both-fit-exactly}
-use Rattle.rows.specs.Lists.{NextsOk, EndsOk, next-in, row-left, marked-in, open-number, look-number, fire-number}
+use Rattle.rows.specs.Lists.{NextsOk, next-in, row-left, marked-in, open-number, look-number, fire-number}
 use Rattle.formula.specs.Lists.{CountedOk, RaiseOk}
 
 -- ---- over lists
@@ -107,14 +107,6 @@ module _ (pl : Plan) where
 
   pub plan-ok : plan-fits pl ≡ true → InShape pl
   plan-ok = fits-exactly pl .0
-
-  pub ends-ok : Tabled pl → (edges : ℕ) → edges ≡ pl .edges → EndsOk (pl .source) (pl .destination) edges
-  ends-ok t edges e =
-      record {
-        edges-most = omega (arith, t .counts .edges-most);
-        source-lt = λ d h. omega (arith, t .source-lt d (omega arith), t .counts .nodes-most);
-        destination-lt = λ d h. omega (arith, t .destination-lt d (omega arith), t .counts .nodes-most);
-      }
 
 module _ (pl : Plan) (st : State) where
   pub nexts-ok : MarksOk pl st → (processes : ℕ) → processes ≡ pl .processes → NextsOk (pl .lengths) (st .positions) processes

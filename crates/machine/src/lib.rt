@@ -94,7 +94,7 @@ fn crossing(plan: Plan) -> [u8; 512]
         plan::wide(plan.nodes),
         plan::wide(plan.processes),
     );
-    rows::crossing_row(
+    seats::crossing_row(
         &homes,
         &plan.source,
         &plan.destination,

@@ -14,7 +14,8 @@ use Rattle.plan.specs.Tests.{outside, bad-counts, zero-length, same-entry, bad-
 use Rattle.routes.specs.Rows.{no-route, total, start, relaxed, round, settled, emptiest-row}
 use Rattle.conditions.specs.declared.Answer.{Answer}
 use Rattle.conditions.specs.declared.Answer.the-variants.{Accepted, Refused}
-use Rattle.conditions.specs.Tests.{is-edge, is-last, next-position, edge-tokens, bad-position, has-counter, strays, bad-counter, sends, bad-increment, bad-sum, loop-sum, closes-free, on-free-cycle, no-way-back, not-multiple, not-above-bound, asks, least-modulus, refuse-lowest, refuse-if, from-13, from-9}
+use Rattle.rounds.specs.Lent.{is-edge, is-last, next-position, edge-tokens, has-counter}
+use Rattle.conditions.specs.Tests.{bad-position, strays, bad-counter, sends, bad-increment, bad-sum, loop-sum, closes-free, on-free-cycle, no-way-back, not-multiple, not-above-bound, asks, least-modulus, refuse-lowest, refuse-if, from-13, from-9}
 use Rattle.reader.specs.Image.{two-bytes, four-bytes, entry, order-start, node-start, edge-start, counter-table, increment-table, plan-of}
 use Rattle.reader.specs.Image as image
 use Rattle.reader.specs.Tests.{good-format, good-offsets, good-later-offsets, from-6, from-5, verdict}

@@ -10,7 +10,6 @@ use Rattle.loops.specs.Sum.{sum}
 use Rattle.loops.specs.Row.{stored}
 use Rattle.loops.specs.Table.{padded}
 use Rattle.plan.specs.Value.{base}
-use Rattle.plan.specs.Tests.{different}
 
 -- ---- entries in range
 -- an entry that is out of range: at or above its limit where it is known, not 0 past the count
@@ -26,16 +25,6 @@ next-in order lengths positions p = at order (base lengths p + at positions p)
 pub record NextsOk (lengths positions : List ℕ) (processes : ℕ) : Type 0 where
   pub processes-most : processes ≤ 64
   pub stands : (p : ℕ) → p < processes → base lengths p + at positions p < 64
-
--- 1 where edge e is synchronising, else 0
-unfoldable pub crosses : List ℕ → List ℕ → List ℕ → ℕ → ℕ
-crosses homes source destination e = one-if (different homes (at source e) (at destination e))
-
--- edges with known ends
-pub record EndsOk (source destination : List ℕ) (edges : ℕ) : Type 0 where
-  pub edges-most : edges ≤ 512
-  pub source-lt : (e : ℕ) → e < edges → at source e < 64
-  pub destination-lt : (e : ℕ) → e < edges → at destination e < 64
 
 -- 1 where edge e is a synchronising in-edge of a node, else 0
 unfoldable pub wanted : List ℕ → List ℕ → ℕ → ℕ → ℕ

@@ -6,7 +6,7 @@ ghost use Rattle.loops.specs.Choice.{at, one-if};
 ghost use Rattle.loops.specs.Sum.{sum};
 ghost use Rattle.loops.specs.Table.{padded};
 ghost use Rattle.plan.specs.Value.{base};
-ghost use Rattle.rows.specs.Lists.{out-of-range, NextsOk, EndsOk, crosses, next-in, wanted, allowed-row, row-above, rows-above, row-left, row-total, with-row};
+ghost use Rattle.rows.specs.Lists.{out-of-range, NextsOk, next-in, wanted, allowed-row, row-above, rows-above, row-left, row-total, with-row};
 
 pub mod refusals;
 
@@ -102,38 +102,6 @@ pub fn counters_bad(modulus: u32, count: u16, counters: &[u32; 64]) -> u32
         c += 1;
     }
     bad
-}
-
-// 1 where an edge's ends are in different processes, else 0.
-fn crosses<'a>(
-    homes: &'a [u16; 64],
-    source: &'a [u16; 512],
-    destination: &'a [u16; 512],
-    e: usize,
-) -> u8
-    requires { ⌜ (e < 512) × (at (now source) e < 64) × (at (now destination) e < 64) ⌝ }
-    ensures { λ r. ⌜ r ≡ crosses (now (homes .entry)) (now (source .entry)) (now (destination .entry)) e ⌝ }
-{
-    one_if(seats::synchronising(homes, plan::wide(source[e]), plan::wide(destination[e])))
-}
-
-// For each edge 1 where it is synchronising, else 0.
-pub fn crossing_row<'a>(
-    homes: &'a [u16; 64],
-    source: &'a [u16; 512],
-    destination: &'a [u16; 512],
-    edges: usize,
-) -> [u8; 512]
-    requires { ⌜ EndsOk (now source) (now destination) edges ⌝ }
-    ensures { λ r. ⌜ r ≡ padded (crosses (now (homes .entry)) (now (source .entry)) (now (destination .entry))) 512 edges ⌝ }
-{
-    let mut row: [u8; 512] = [0; 512];
-    let mut e: usize = 0;
-    while e < edges {
-        row[e] = crosses(homes, source, destination, e);
-        e += 1;
-    }
-    row
 }
 
 // The next node of a process.

@@ -1,8 +1,10 @@
 // Where each node stands: its order position, its process, and whether an edge's ends are in different processes.
 ghost use mathlib.Core.Path.{_≡_};
 ghost use Prim.Native.Nat.{_<_, _≤_};
+ghost use Rattle.loops.specs.Choice.{at};
 ghost use Rattle.loops.specs.Table.{padded};
 ghost use Rattle.plan.specs.Tests.{stands-at, place-of, home-of, different};
+ghost use Rattle.seats.specs.Crossing.{crosses, EndsOk};
 
 // A node stands at an order position.
 fn stands_at(order: &[u16; 64], v: usize, i: usize) -> bool
@@ -71,4 +73,40 @@ pub fn synchronising(homes: &[u16; 64], source: usize, destination: usize) -> bo
     } else {
         true
     }
+}
+
+// 1 where an edge's ends are in different processes, else 0.
+fn crossing_at<'a>(
+    homes: &'a [u16; 64],
+    source: &'a [u16; 512],
+    destination: &'a [u16; 512],
+    e: usize,
+) -> u8
+    requires { ⌜ (e < 512) × (at (now source) e < 64) × (at (now destination) e < 64) ⌝ }
+    ensures { λ r. ⌜ r ≡ crosses (now (homes .entry)) (now (source .entry)) (now (destination .entry)) e ⌝ }
+{
+    if synchronising(homes, plan::wide(source[e]), plan::wide(destination[e])) {
+        1
+    } else {
+        0
+    }
+}
+
+// For each edge 1 where it is synchronising, else 0.
+pub fn crossing_row<'a>(
+    homes: &'a [u16; 64],
+    source: &'a [u16; 512],
+    destination: &'a [u16; 512],
+    edges: usize,
+) -> [u8; 512]
+    requires { ⌜ EndsOk (now source) (now destination) edges ⌝ }
+    ensures { λ r. ⌜ r ≡ padded (crosses (now (homes .entry)) (now (source .entry)) (now (destination .entry))) 512 edges ⌝ }
+{
+    let mut row: [u8; 512] = [0; 512];
+    let mut e: usize = 0;
+    while e < edges {
+        row[e] = crossing_at(homes, source, destination, e);
+        e += 1;
+    }
+    row
 }

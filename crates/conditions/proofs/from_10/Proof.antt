@@ -1,15 +1,16 @@
 -- `conditions::from_10` meets its contract. Assumes nothing.
 use borrow.Author.Needs.{needs}
-use mathlib.Core.Path.{_≡_}
+use mathlib.Core.Path.{_≡_, refl}
 use Rattle.loops.specs.First.{first}
+use Rattle.seats.specs.Crossing.{ends-ok}
 use Rattle.conditions.specs.Tests.{bad-counter}
-use Rattle.conditions.specs.Reading.{ends-in-row, crossing-known, lowest-10}
+use Rattle.conditions.specs.Reading.{crossing-known, lowest-10}
 use Rattle.conditions.specs.Refusing.{refused-here, passed-here}
 use Rattle.conditions.proofs.from_10.Statement.{statement}
 use Rattle.conditions.proofs.from_10.Tie as tie
 
 -- where test 10 has passed, where the processes of the nodes are there, and where the function begins
-abbrev past-10 : tie.After-crossings → tie.Else1
+abbrev past-10 : tie.After-crossing-row → tie.Else1
 past-10 c = c .before .before .before .before .before
 
 abbrev homed : tie.After-first-bad-counter → tie.After-homes
@@ -25,16 +26,16 @@ is-10 c = let h = homed c in lowest-10 _ (start h .pre .0) _ (h .homes .ensures)
 returns : tie.Need-returns
 returns c = refused-here _ _ _ _ _ _ (c .refused .ensures) (is-10 (c .before .before)) (c .before .if1 .taken)
 
-crossings-requires : tie.Need-crossings-requires
-crossings-requires c κs =
+crossing-row-requires : tie.Need-crossing-row-requires
+crossing-row-requires c κs =
     let t = start (homed (c .before .before .before .before .before)) .pre .0 in
-    (t .counts .edges-most, ends-in-row _ t)
+    ends-ok _ t _ refl
 
 from-11-requires : tie.Need-from-11-requires
 from-11-requires c κs =
     let h = homed (past-10 c .before) in
     let g = start h .pre in
-    record { tabled = g .0; crossing-is = crossing-known _ (g .0) _ (h .homes .ensures) (c .crossings .ensures); q-is = g .1 }
+    record { tabled = g .0; crossing-is = crossing-known _ (g .0) _ (h .homes .ensures) (c .crossing-row .ensures); q-is = g .1 }
 
 returns-2 : tie.Need-returns-2
 returns-2 c =
@@ -53,6 +54,6 @@ from-10-spec =
     (λ c κs. search needs)
     returns
     (λ c. search needs)
-    crossings-requires
+    crossing-row-requires
     from-11-requires
     returns-2)
