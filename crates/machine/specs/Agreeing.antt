@@ -19,7 +19,7 @@ use Rattle.plan.specs.Tests.{place-of, stands-at, home, seat, synchronises, pla
 use Rattle.plan.specs.Formed.{Tabled, formed, fits-exactly}
 use Rattle.plan.specs.Seating.{within, node-at-lt, home-lt, seat-lt}
 use Rattle.plan.specs.Agree.{Agree, agree-fits, agree-home, agree-node-at, agree-seat, agree-synchronises, agree-share}
-use Rattle.rows.specs.Lists.{out-of-range}
+use Rattle.ranges.specs.Range.{out-of-range}
 use Rattle.machine.specs.declared.State.{State}
 use Rattle.machine.specs.declared.Reply.the-variants.{Opened, Fired}
 use Rattle.machine.specs.States.{mark, next-node}

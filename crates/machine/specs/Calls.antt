@@ -13,7 +13,7 @@ use Rattle.counting.specs.Modular.{less-earlier, finds, reading-printed}
 use Rattle.plan.specs.declared.Plan.{Plan}
 use Rattle.plan.specs.Value.{node-at, share}
 use Rattle.plan.specs.Tests.{home, seat, synchronises, plan-fits}
-use Rattle.rows.specs.Lists.{out-of-range}
+use Rattle.ranges.specs.Range.{out-of-range}
 use Rattle.machine.specs.declared.State.{State}
 use Rattle.machine.specs.declared.Reply.{Reply}
 use Rattle.machine.specs.declared.Reply.the-variants.{Opened, Found, Wait, Fired, Refused}

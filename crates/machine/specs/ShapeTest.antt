@@ -20,7 +20,7 @@ use Rattle.plan.specs.Seating.{synchronises-exactly}
 use Rattle.machine.specs.declared.State.{State}
 use Rattle.machine.specs.States.{mark, next-node, StateInShape}
 use Rattle.machine.specs.Calls.{to-see, mark-allowed, row-excess, position-bad, opened-bad, counter-bad, state-fits, both-fit}
-use Rattle.rows.specs.Lists.{out-of-range}
+use Rattle.ranges.specs.Range.{out-of-range}
 use Rattle.machine.specs.ByTest.{one-if-true, one-if-false, one-if-some, if-some, sum-zero}
 use Rattle.machine.specs.ShapeParts.{InRange, MarkMeans, MarkFits, Parts, parts-exactly}
 

@@ -127,13 +127,13 @@ pub fn state_fits(plan: Plan, state: State) -> bool
     requires { ⌜ InShape plan ⌝ }
     ensures { λ r. ⌜ r ≡ state-fits plan state ⌝ }
 {
-    if 0 < rows::positions_bad(&plan.lengths, plan.processes, &state.positions) {
+    if 0 < ranges::positions_bad(&plan.lengths, plan.processes, &state.positions) {
         return false;
     }
-    if 0 < rows::flags_bad(plan.processes, &state.opened) {
+    if 0 < ranges::flags_bad(plan.processes, &state.opened) {
         return false;
     }
-    if 0 < rows::counters_bad(plan.modulus, plan.counters, &state.counters) {
+    if 0 < ranges::counters_bad(plan.modulus, plan.counters, &state.counters) {
         return false;
     }
     marks_fit(plan, state)
@@ -143,7 +143,7 @@ pub fn state_fits(plan: Plan, state: State) -> bool
 pub fn both_fit(plan: Plan, state: State) -> bool
     ensures { λ r. ⌜ r ≡ both-fit plan state ⌝ }
 {
-    if plan::fits(plan) {
+    if shape::fits(plan) {
         return state_fits(plan, state);
     }
     false
@@ -391,7 +391,7 @@ pub fn begin(plan: Plan) -> Began
     ensures { λ r. ⌜ r ≡ begin-run plan ⌝ }
 {
     let state = fresh_state();
-    if plan::fits(plan) {
+    if shape::fits(plan) {
         return Began { number: 0, state };
     }
     Began { number: 25, state }

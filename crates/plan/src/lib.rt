@@ -1,4 +1,4 @@
-// The plan value, tests 3 and 5 to 8 over it, and its shape.
+// The plan value, and tests 3 and 5 to 8 over it.
 ghost use mathlib.Core.Path.{_≡_};
 ghost use Prim.Native.Nat.{_<_, _≤_};
 ghost use Rattle.loops.specs.Choice.{at};
@@ -6,9 +6,8 @@ ghost use Rattle.loops.specs.First.{first};
 ghost use Rattle.loops.specs.Any.{any};
 ghost use Rattle.loops.specs.Sum.{sum};
 ghost use Rattle.plan.specs.Value.{base, share};
-ghost use Rattle.plan.specs.Faults.{CountsFit};
 ghost use Rattle.plan.specs.Tests.{outside, bad-counts, zero-length, same-entry, bad-order, bad-node, not-above, not-rising, bad-edge};
-ghost use Rattle.plan.specs.Tests.{process-at, q-fits, edges-fit, nodes-fit, order-fits, lengths-fit, plan-fits};
+ghost use Rattle.plan.specs.Tests.{process-at};
 
 #[repr(C)]
 pub struct Plan {
@@ -304,91 +303,4 @@ pub fn process_of_position(lengths: &[u16; 64], processes: usize, i: usize) -> u
         p += 1;
     }
     p
-}
-
-// Its Q is counter 0's sum and at least 1.
-fn q_fits(plan: Plan) -> bool
-    requires { ⌜ CountsFit plan ⌝ }
-    ensures { λ r. ⌜ r ≡ q-fits plan ⌝ }
-{
-    let counter = plan.counter;
-    let increment = plan.increment;
-    let sum = counter_sum(&counter, &increment, plan.nodes as usize, 0);
-    let q = plan.q;
-    if sum == q { 1 <= q } else { false }
-}
-
-// Test 8 passes, and what comes after it.
-fn edges_fit(plan: Plan) -> bool
-    requires { ⌜ CountsFit plan ⌝ }
-    ensures { λ r. ⌜ r ≡ edges-fit plan ⌝ }
-{
-    let source = plan.source;
-    let destination = plan.destination;
-    let tokens = plan.tokens;
-    let edges = plan.edges as usize;
-    if first_bad_edge(&source, &destination, &tokens, plan.nodes as usize, edges) < edges {
-        return false;
-    }
-    q_fits(plan)
-}
-
-// Test 7 passes, and what comes after it.
-fn nodes_fit(plan: Plan) -> bool
-    requires { ⌜ CountsFit plan ⌝ }
-    ensures { λ r. ⌜ r ≡ nodes-fit plan ⌝ }
-{
-    let counter = plan.counter;
-    let increment = plan.increment;
-    let nodes = plan.nodes as usize;
-    if first_bad_node(&counter, &increment, plan.counters as usize, nodes) < nodes {
-        return false;
-    }
-    edges_fit(plan)
-}
-
-// Test 6 passes, and what comes after it.
-fn order_fits(plan: Plan) -> bool
-    requires { ⌜ CountsFit plan ⌝ }
-    ensures { λ r. ⌜ r ≡ order-fits plan ⌝ }
-{
-    let order = plan.order;
-    let nodes = plan.nodes as usize;
-    if first_bad_order(&order, nodes) < nodes {
-        return false;
-    }
-    nodes_fit(plan)
-}
-
-// Test 5 passes, and what comes after it.
-fn lengths_fit(plan: Plan) -> bool
-    requires { ⌜ CountsFit plan ⌝ }
-    ensures { λ r. ⌜ r ≡ lengths-fit plan ⌝ }
-{
-    let lengths = plan.lengths;
-    let processes = plan.processes as usize;
-    if first_zero_length(&lengths, processes) < processes {
-        return false;
-    }
-    if lengths_sum(&lengths, processes) == plan.nodes as usize {
-        order_fits(plan)
-    } else {
-        false
-    }
-}
-
-// A plan value in shape: tests 3, 5, 6, 7 and 8 pass on it and its Q is counter 0's sum and at least 1.
-pub fn fits(plan: Plan) -> bool
-    ensures { λ r. ⌜ r ≡ plan-fits plan ⌝ }
-{
-    if counts_bad(
-        plan.nodes,
-        plan.processes,
-        plan.edges,
-        plan.counters,
-        plan.modulus,
-    ) {
-        return false;
-    }
-    lengths_fit(plan)
 }

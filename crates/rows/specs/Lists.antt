@@ -11,11 +11,6 @@ use Rattle.loops.specs.Row.{stored}
 use Rattle.loops.specs.Table.{padded}
 use Rattle.plan.specs.Value.{base}
 
--- ---- entries in range
--- an entry that is out of range: at or above its limit where it is known, not 0 past the count
-unfoldable pub out-of-range : (ℕ → ℕ) → ℕ → List ℕ → ℕ → Bool
-out-of-range limit count entries k = if (ltb k count) (leb (limit k) (at entries k)) (ltb 0 (at entries k))
-
 -- ---- next nodes and edges to see
 -- the next node of process p
 unfoldable pub next-in : List ℕ → List ℕ → List ℕ → ℕ → ℕ

@@ -1,0 +1,27 @@
+-- `ranges::flag_bad` meets its contract. Assumes nothing.
+use borrow.Author.Needs.{needs}
+use Rattle.loops.specs.Choice.{ifs}
+use Rattle.ranges.specs.Range.{out-of-range}
+use Rattle.ranges.specs.Range.{ones}
+use Rattle.ranges.proofs.flag_bad.Statement.{statement}
+use Rattle.ranges.proofs.flag_bad.Tie as tie
+
+returns : tie.Need-returns
+unfolding out-of-range
+returns c = search (needs, ifs, ones)
+
+returns-2 : tie.Need-returns-2
+unfolding out-of-range
+returns-2 c = search (needs, ifs, ones)
+
+pub flag-bad-spec : {M : Type 1} → statement M
+flag-bad-spec =
+    tie.close
+    (tie.spec
+    (λ c. search (needs, ifs, ones))
+    (λ c. search needs)
+    (λ c κs. search needs)
+    (λ c. search needs)
+    (λ c κs. search needs)
+    returns
+    returns-2)
