@@ -199,6 +199,17 @@ struct run_answer run_step(const struct plan_value *plan,
                            struct run_state *state, uint32_t code,
                            uint32_t process, uint32_t edge);
 
+/* A call's answer beside the state that it leaves. */
+struct run_stepped {
+    struct run_answer answer;
+    struct run_state state;
+};
+
+/* The same call on a state by value; what is handed in stays as it is. */
+struct run_stepped run_stepped(struct plan_value plan, struct run_state state,
+                               uint32_t code, uint32_t process,
+                               uint32_t edge);
+
 /* A token reading's answer. */
 struct run_token_answer {
     uint32_t number; /* RUN_ACCEPTED, 25 or 27 */

@@ -57,6 +57,9 @@ HAS_BYTES(begun_has, run_begun, 4 + RUN_STATE_BYTES);
 LIES_AT(kind_at, run_answer, kind, 0);
 LIES_AT(value_at, run_answer, value, 4);
 HAS_BYTES(answer_has, run_answer, 8);
+LIES_AT(stepped_answer_at, run_stepped, answer, 0);
+LIES_AT(stepped_state_at, run_stepped, state, 8);
+HAS_BYTES(stepped_has, run_stepped, 8 + RUN_STATE_BYTES);
 LIES_AT(token_number_at, run_token_answer, number, 0);
 LIES_AT(token_count_at, run_token_answer, count, 4);
 HAS_BYTES(token_answer_has, run_token_answer, 8);
@@ -89,6 +92,11 @@ static struct {
     struct run_begun begun;
     uint8_t after[GUARD];
 } begun_out;
+static struct {
+    uint8_t before[GUARD];
+    struct run_stepped stepped;
+    uint8_t after[GUARD];
+} stepped_out;
 
 /* Sets the guard bytes before and after. */
 static void set_guards(uint8_t *before, uint8_t *after)
@@ -206,6 +214,21 @@ static uint32_t kind_number(enum second_kind kind)
     }
 }
 
+/* The same call by value, before it is made in place: the state handed in is
+   as it was. */
+static void step_by_value(uint32_t code, uint32_t process, uint32_t edge)
+{
+    static struct run_state before;
+    before = kept.state;
+    set_guards(stepped_out.before, stepped_out.after);
+    memset(&stepped_out.stepped, GUARD_BYTE, sizeof stepped_out.stepped);
+    stepped_out.stepped = run_stepped(*plan, kept.state, code, process, edge);
+    check(memcmp(&before, &kept.state, sizeof before) == 0 &&
+              guards_whole(kept.before, kept.after) &&
+              guards_whole(stepped_out.before, stepped_out.after),
+          "bytes around a call by value", calls);
+}
+
 /* One call on both sides. */
 static struct second_answer compare_step(uint32_t code, uint32_t process,
                                          uint32_t edge)
@@ -215,7 +238,12 @@ static struct second_answer compare_step(uint32_t code, uint32_t process,
     struct second_answer expected =
         second_step(&second_plan, &second_state, code, process, edge);
     before = kept.state;
+    step_by_value(code, process, edge);
     got = run_step(plan, &kept.state, code, process, edge);
+    check(memcmp(&got, &stepped_out.stepped.answer, sizeof got) == 0 &&
+              memcmp(&kept.state, &stepped_out.stepped.state,
+                     sizeof kept.state) == 0,
+          "run_step and run_stepped", calls);
     check(got.kind == kind_number(expected.kind) &&
               got.value == expected.value,
           "run_step and the second program", calls);

@@ -12,6 +12,7 @@ use Rattle.host.specs.declared.Verdict.{Verdict}
 use Rattle.host.specs.declared.PlanRead.{PlanRead}
 use Rattle.host.specs.declared.Begun.{Begun}
 use Rattle.host.specs.declared.CallAnswer.{CallAnswer}
+use Rattle.host.specs.declared.Stepped.{Stepped}
 use Rattle.host.specs.declared.TokenAnswer.{TokenAnswer}
 use Rattle.host.specs.Numbers.{numbers-of, numbers-of-reading, numbers-of-begin, numbers-of-reply, numbers-of-level}
 
@@ -24,13 +25,17 @@ read-unique s = one-answer
 pub begin-unique : (pl : Plan) {r r′ : Begun} → r ≡ numbers-of-begin (begin-run pl) → r′ ≡ numbers-of-begin (begin-run pl) → r ≡ r′
 begin-unique pl = one-answer
 
--- what the promise of `run_step` says of an answer and of the state afterwards
+-- what the promises of `run_step` and `run_stepped` say of an answer and of the state afterwards
 abbrev pub StepPromise : Plan → State → ℕ → ℕ → ℕ → CallAnswer → State → Type 0
 StepPromise pl st code p e r after = (r ≡ numbers-of-reply (step-call pl st code p e .reply)) × (after ≡ step-call pl st code p e .state)
 
 pub step-unique : (pl : Plan) (st : State) (code p e : ℕ) {r r′ : CallAnswer} {after after′ : State}
     → StepPromise pl st code p e r after → StepPromise pl st code p e r′ after′ → (r ≡ r′) × (after ≡ after′)
 step-unique pl st code p e kept kept′ = (one-answer (kept .0) (kept′ .0), one-answer (kept .1) (kept′ .1))
+
+pub stepped-unique : (pl : Plan) (st : State) (code p e : ℕ) {r r′ : Stepped}
+    → StepPromise pl st code p e (r .answer) (r .state) → StepPromise pl st code p e (r′ .answer) (r′ .state) → (r .answer ≡ r′ .answer) × (r .state ≡ r′ .state)
+stepped-unique pl st code p e = step-unique pl st code p e
 
 pub tokens-unique : (pl : Plan) (st : State) (e : ℕ) {r r′ : TokenAnswer} → r ≡ numbers-of-level (reading-call pl st e) → r′ ≡ numbers-of-level (reading-call pl st e) → r ≡ r′
 tokens-unique pl st e = one-answer

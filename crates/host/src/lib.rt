@@ -41,9 +41,10 @@ pub struct CallAnswer {
 }
 
 // A call's answer beside the state that it leaves.
-struct Stepped {
-    answer: CallAnswer,
-    state: State,
+#[repr(C)]
+pub struct Stepped {
+    pub answer: CallAnswer,
+    pub state: State,
 }
 
 // A token reading's answer: the refusal's number (0: read) and the tokens (0 after a refusal).
@@ -126,7 +127,14 @@ fn as_token_answer(level: Level) -> TokenAnswer
 }
 
 // One call on a plan and a state by value: the answer as numbers, and the state that it leaves.
-fn step_by_value(plan: Plan, state: State, code: u32, process: u32, edge: u32) -> Stepped
+#[no_mangle]
+pub extern "C" fn run_stepped(
+    plan: Plan,
+    state: State,
+    code: u32,
+    process: u32,
+    edge: u32,
+) -> Stepped
     ensures { λ r. ⌜ (r .answer ≡ numbers-of-reply (step-call plan state code process edge .reply)) × (r .state ≡ step-call plan state code process edge .state) ⌝ }
 {
     let turned = machine::step(plan, state, code, process, edge);
@@ -208,7 +216,7 @@ pub extern "C" fn run_step<'a, 'b>(
 ) -> CallAnswer
     ensures { λ r. ⌜ (r ≡ numbers-of-reply (step-call (now (plan .entry)) (now (state .entry)) code process edge .reply)) × (now (state .exit) ≡ step-call (now (plan .entry)) (now (state .entry)) code process edge .state) ⌝ }
 {
-    let r = step_by_value(*plan, *state, code, process, edge);
+    let r = run_stepped(*plan, *state, code, process, edge);
     *state = r.state;
     r.answer
 }

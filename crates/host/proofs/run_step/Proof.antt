@@ -1,5 +1,5 @@
 -- `host::run_step` meets its contract: a walk of its MIR, by hand. The plan is looked into and copied out, the state's borrow is opened and the state
--- copied out; both go to `step_by_value`, of which all that is known is that it meets its contract; the state that comes back is stored over the old one, the
+-- copied out; both go to `run_stepped`, of which all that is known is that it meets its contract; the state that comes back is stored over the old one, the
 -- borrow is closed at it, and the answer is returned.
 -- Assumes nothing.
 use mathlib.Core.Path.{_≡_, refl, ap}
@@ -53,10 +53,10 @@ use Rattle.host.proofs.CallAnswer as N
 use Rattle.host.proofs.CallAnswer.Laws as N′
 use Rattle.host.proofs.Stepped as S
 use Rattle.host.proofs.Stepped.Laws as S′
-use Rattle.host.proofs.step_by_value as stepped
-use Rattle.host.proofs.step_by_value.Symbol as stepped-def
-use Rattle.host.proofs.step_by_value.Symbol.{name as #stepped}
-use Rattle.host.proofs.step_by_value.Met as stepped-thm
+use Rattle.host.proofs.run_stepped as stepped
+use Rattle.host.proofs.run_stepped.Symbol as stepped-def
+use Rattle.host.proofs.run_stepped.Symbol.{name as #stepped}
+use Rattle.host.proofs.run_stepped.Met as stepped-thm
 use Rattle.host.proofs.run_step.Key.{name as #run-step}
 use Rattle.host.proofs.run_step as f
 use Rattle.host.proofs.run_step.Statement as stated
@@ -85,7 +85,7 @@ answer-is r vs is = LL.owed S.the-type S′.the-laws r vs is .0
 state-is : (r : Stepped) (vs : List Val) → Is S.the-row r vs → Is T.the-row (r .state) (vals (r .state))
 state-is r vs is = LL.owed S.the-type S′.the-laws r vs is .1 .0
 
--- what `step_by_value` promises of its result
+-- what `run_stepped` promises of its result
 abbrev Kept : Plan → State → ℕ → ℕ → ℕ → Stepped → Type 0
 Kept k h c p e r = StepPromise k h c p e (r .answer) (r .state)
 
@@ -192,4 +192,4 @@ run-step-spec 𝓤 H 𝓜 𝓖 𝓡 =
     entered 𝓤 H (tripleOf 𝓤 H (𝓖 .A) f.signature (f.spec 𝓤 H (𝓖 .A) (𝓜 .mem) (𝓡 .run)))
     (tables 𝓤 H 𝓜 𝓡 code.env .C) (tables 𝓤 H 𝓜 𝓡 code.env .Λ) #run-step code.function (code.unfolded 𝓤 H 𝓜 𝓡)
     (step-meets 𝓤 H (𝓖 .A) (givenOf 𝓤 H 𝓜 𝓖) (𝓜 .mem) (𝓡 .run) (tablesOf 𝓤 H 𝓜 (tables 𝓤 H 𝓜 𝓡 code.env))
-    (cited 𝓤 H (Step 𝓤 H (𝓖 .A) (𝓜 .mem) (𝓡 .run)) 𝓜 𝓡 code.env #stepped stepped-def.routine code.calls-host·step-by-value (stepped-thm.met 𝓤 H 𝓜 𝓖 𝓡)))
+    (cited 𝓤 H (Step 𝓤 H (𝓖 .A) (𝓜 .mem) (𝓡 .run)) 𝓜 𝓡 code.env #stepped stepped-def.routine code.calls-host·run-stepped (stepped-thm.met 𝓤 H 𝓜 𝓖 𝓡)))
