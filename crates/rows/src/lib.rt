@@ -103,19 +103,19 @@ fn allowed_row<'a>(
 }
 
 // 1 where a mark is above what it may be, else 0.
-fn above(allowed: u8, mark: u8) -> u32
+fn above(allowed: u8, mark: u8) -> u16
     ensures { λ r. ⌜ (r ≡ one-if (ltb allowed mark)) × (r ≤ 1) ⌝ }
 {
     if allowed < mark { 1 } else { 0 }
 }
 
 // How many marks of a process's row are above what they may be.
-fn row_above<'a>(allowed: &'a [u8; 512], marks: &'a [u8; 32768], p: usize) -> u32
+fn row_above<'a>(allowed: &'a [u8; 512], marks: &'a [u8; 32768], p: usize) -> u16
     requires { ⌜ p < 64 ⌝ }
     ensures { λ r. ⌜ (r ≡ row-above (now (allowed .entry)) (now (marks .entry)) p) × (r ≤ 512) ⌝ }
 {
     let base = 512 * p;
-    let mut excess: u32 = 0;
+    let mut excess: u16 = 0;
     let mut e: usize = 0;
     while e < 512 {
         excess += above(allowed[e], marks[base + e]);
@@ -134,7 +134,7 @@ fn row_excess<'a>(
     processes: usize,
     edges: usize,
     p: usize,
-) -> u32
+) -> u16
     requires { ⌜ (p < 64) × (edges ≤ 512) ⌝ }
     ensures { λ r. ⌜ (r ≡ row-above (allowed-row (now (opened .entry)) (now (nexts .entry)) (now (destination .entry)) (now (crossing .entry)) processes edges p) (now (marks .entry)) p) × (r ≤ 512) ⌝ }
 {
@@ -151,11 +151,11 @@ pub fn rows_excess<'a>(
     crossing: &'a [u8; 512],
     processes: usize,
     edges: usize,
-) -> u32
+) -> u16
     requires { ⌜ edges ≤ 512 ⌝ }
     ensures { λ r. ⌜ r ≡ rows-above (now (marks .entry)) (now (opened .entry)) (now (nexts .entry)) (now (destination .entry)) (now (crossing .entry)) processes edges ⌝ }
 {
-    let mut excess: u32 = 0;
+    let mut excess: u16 = 0;
     let mut row: usize = 0;
     while row < 64 {
         excess += row_excess(
