@@ -19,7 +19,8 @@ use Rattle.machine.specs.declared.State.{State}
 use Rattle.machine.specs.States.{StateInShape}
 use Rattle.machine.specs.Calls.{position-bad, state-fits, both-fit}
 use Rattle.machine.specs.ShapeTest.{nowhere, in-range, both-fit-exactly}
-use Rattle.rows.specs.Lists.{NextsOk, next-in, row-left, marked-in, open-number, look-number, fire-number}
+use Rattle.rows.specs.Lists.{NextsOk, next-in, row-left}
+use Rattle.refusals.specs.Numbers.{marked-in, open-number, look-number, fire-number}
 use Rattle.formula.specs.Lists.{CountedOk, RaiseOk}
 
 -- ---- over lists

@@ -29,7 +29,8 @@ use Rattle.machine.specs.declared.Ends.{Ends}
 use Rattle.machine.specs.ByTest.{one-if-true, one-if-false}
 use Rattle.machine.specs.States.{spot, mark, next-node, fresh}
 use Rattle.machine.specs.Calls.{earlier, b-of, edge-found, to-see, mark-allowed, row-excess, raised, opened-state, do-open, marks-left, with-marks, found-state, do-look, next-position, fired-state, do-fire, refused, marked, open-in-shape, look-in-shape, fire-in-shape, reading-in-shape, begin-run}
-use Rattle.rows.specs.Lists.{next-in, wanted, allowed-row, row-above, rows-above, row-left, row-total, with-row, marked-in, open-number, look-number, fire-number}
+use Rattle.rows.specs.Lists.{next-in, wanted, allowed-row, row-above, rows-above, row-left, row-total, with-row}
+use Rattle.refusals.specs.Numbers.{marked-in, open-number, look-number, fire-number}
 use Rattle.seats.specs.Crossing.{crosses}
 use Rattle.formula.specs.Lists.{raised-in, shares-in, earlier-in, b-in}
 

@@ -298,7 +298,7 @@ pub fn open_in_shape(plan: Plan, state: State, process: u32) -> Turned
     requires { ⌜ InShape plan × StateInShape plan state ⌝ }
     ensures { λ r. ⌜ r ≡ open-in-shape plan state process ⌝ }
 {
-    let number = rows::refusals::of_open(plan.processes, &state.opened, process);
+    let number = refusals::of_open(plan.processes, &state.opened, process);
     if 0 < number {
         return refusal(number, state);
     }
@@ -310,7 +310,7 @@ pub fn look_in_shape(plan: Plan, state: State, process: u32, edge: u32) -> Turne
     requires { ⌜ InShape plan × StateInShape plan state ⌝ }
     ensures { λ r. ⌜ r ≡ look-in-shape plan state process edge ⌝ }
 {
-    let number = rows::refusals::of_look(
+    let number = refusals::of_look(
         plan.processes,
         plan.edges,
         &state.opened,
@@ -329,7 +329,7 @@ pub fn fire_in_shape(plan: Plan, state: State, process: u32) -> Turned
     requires { ⌜ InShape plan × StateInShape plan state ⌝ }
     ensures { λ r. ⌜ r ≡ fire-in-shape plan state process ⌝ }
 {
-    let number = rows::refusals::of_fire(plan.processes, &state.opened, &state.marks, process);
+    let number = refusals::of_fire(plan.processes, &state.opened, &state.marks, process);
     if 0 < number {
         return refusal(number, state);
     }

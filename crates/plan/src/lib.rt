@@ -1,12 +1,9 @@
-// The plan value, and tests 3 and 5 to 8 over it.
+// The plan value; sums over its tables, and the process of an order position.
 ghost use mathlib.Core.Path.{_≡_};
 ghost use Prim.Native.Nat.{_<_, _≤_};
 ghost use Rattle.loops.specs.Choice.{at};
-ghost use Rattle.loops.specs.First.{first};
-ghost use Rattle.loops.specs.Any.{any};
 ghost use Rattle.loops.specs.Sum.{sum};
 ghost use Rattle.plan.specs.Value.{base, share};
-ghost use Rattle.plan.specs.Tests.{outside, bad-counts, zero-length, same-entry, bad-order, bad-node, not-above, not-rising, bad-edge};
 ghost use Rattle.plan.specs.Tests.{process-at};
 
 #[repr(C)]
@@ -40,55 +37,6 @@ pub fn short(x: u16) -> u32
     x as u32
 }
 
-// A number below its least value or above its greatest.
-fn is_outside(low: u32, high: u32, x: u32) -> bool
-    ensures { λ r. ⌜ r ≡ outside low high x ⌝ }
-{
-    if x < low { true } else { high < x }
-}
-
-// Number 3: a count or N outside its bounds.
-pub fn counts_bad(nodes: u16, processes: u16, edges: u16, counters: u16, modulus: u32) -> bool
-    ensures { λ r. ⌜ r ≡ bad-counts nodes processes edges counters modulus ⌝ }
-{
-    if is_outside(1, 64, nodes as u32) {
-        return true;
-    }
-    if is_outside(1, 64, processes as u32) {
-        return true;
-    }
-    if is_outside(1, 512, edges as u32) {
-        return true;
-    }
-    if is_outside(1, 64, counters as u32) {
-        return true;
-    }
-    is_outside(1, 2000000000, modulus)
-}
-
-// A process length 0.
-fn zero_length_at(lengths: &[u16; 64], k: usize) -> bool
-    requires { ⌜ k < 64 ⌝ }
-    ensures { λ r. ⌜ r ≡ zero-length (now (lengths .entry)) k ⌝ }
-{
-    lengths[k] == 0
-}
-
-// Number 5: the lowest process with length 0, or the number of processes.
-pub fn first_zero_length(lengths: &[u16; 64], processes: usize) -> usize
-    requires { ⌜ processes ≤ 64 ⌝ }
-    ensures { λ r. ⌜ r ≡ first (zero-length (now (lengths .entry))) processes ⌝ }
-{
-    let mut k: usize = 0;
-    while k < processes {
-        if zero_length_at(lengths, k) {
-            return k;
-        }
-        k += 1;
-    }
-    k
-}
-
 // The length of a process.
 fn length_at(lengths: &[u16; 64], p: usize) -> u16
     requires { ⌜ p < 64 ⌝ }
@@ -109,152 +57,6 @@ pub fn lengths_sum(lengths: &[u16; 64], processes: usize) -> usize
         p += 1;
     }
     sum
-}
-
-// A node seen before in the firing order.
-fn seen_before(order: &[u16; 64], i: usize) -> bool
-    requires { ⌜ i < 64 ⌝ }
-    ensures { λ r. ⌜ r ≡ any (same-entry (now (order .entry)) i) i ⌝ }
-{
-    let x = order[i];
-    let mut j: usize = 0;
-    while j < i {
-        if order[j] == x {
-            return true;
-        }
-        j += 1;
-    }
-    false
-}
-
-// An order entry not a node, or a node seen before.
-fn bad_order_at(order: &[u16; 64], nodes: usize, i: usize) -> bool
-    requires { ⌜ i < 64 ⌝ }
-    ensures { λ r. ⌜ r ≡ bad-order (now (order .entry)) nodes i ⌝ }
-{
-    if nodes <= wide(order[i]) {
-        true
-    } else {
-        seen_before(order, i)
-    }
-}
-
-// Number 6: the lowest order position that has an entry not a node or a node seen before, or the number of nodes.
-pub fn first_bad_order(order: &[u16; 64], nodes: usize) -> usize
-    requires { ⌜ nodes ≤ 64 ⌝ }
-    ensures { λ r. ⌜ r ≡ first (bad-order (now (order .entry)) nodes) nodes ⌝ }
-{
-    let mut i: usize = 0;
-    while i < nodes {
-        if bad_order_at(order, nodes, i) {
-            return i;
-        }
-        i += 1;
-    }
-    i
-}
-
-// Counter unknown, increment too large.
-fn bad_node_at<'a>(
-    counter: &'a [u16; 64],
-    increment: &'a [u16; 64],
-    counters: usize,
-    v: usize,
-) -> bool
-    requires { ⌜ v < 64 ⌝ }
-    ensures { λ r. ⌜ r ≡ bad-node (now (counter .entry)) (now (increment .entry)) counters v ⌝ }
-{
-    if counters <= wide(counter[v]) {
-        true
-    } else {
-        255 < increment[v]
-    }
-}
-
-// Number 7: the lowest node whose counter is unknown or whose increment is too large, or the number of nodes.
-pub fn first_bad_node<'a>(
-    counter: &'a [u16; 64],
-    increment: &'a [u16; 64],
-    counters: usize,
-    nodes: usize,
-) -> usize
-    requires { ⌜ nodes ≤ 64 ⌝ }
-    ensures { λ r. ⌜ r ≡ first (bad-node (now (counter .entry)) (now (increment .entry)) counters) nodes ⌝ }
-{
-    let mut v: usize = 0;
-    while v < nodes {
-        if bad_node_at(counter, increment, counters, v) {
-            return v;
-        }
-        v += 1;
-    }
-    v
-}
-
-// The pair (c, d) is not above the pair (a, b): by source, then destination.
-fn not_above(a: u16, b: u16, c: u16, d: u16) -> bool
-    ensures { λ r. ⌜ r ≡ not-above a b c d ⌝ }
-{
-    if c < a {
-        return true;
-    }
-    if c == a { d <= b } else { false }
-}
-
-// An edge not above the one before it.
-fn not_rising_at<'a>(source: &'a [u16; 512], destination: &'a [u16; 512], e: usize) -> bool
-    requires { ⌜ e < 512 ⌝ }
-    ensures { λ r. ⌜ r ≡ not-rising (now (source .entry)) (now (destination .entry)) e ⌝ }
-{
-    if 0 < e {
-        not_above(source[e - 1], destination[e - 1], source[e], destination[e])
-    } else {
-        false
-    }
-}
-
-// An end unknown, too many tokens, edge not above the one before it.
-fn bad_edge_at<'a>(
-    source: &'a [u16; 512],
-    destination: &'a [u16; 512],
-    tokens: &'a [u16; 512],
-    nodes: usize,
-    e: usize,
-) -> bool
-    requires { ⌜ e < 512 ⌝ }
-    ensures { λ r. ⌜ r ≡ bad-edge (now (source .entry)) (now (destination .entry)) (now (tokens .entry)) nodes e ⌝ }
-{
-    if nodes <= wide(source[e]) {
-        return true;
-    }
-    if nodes <= wide(destination[e]) {
-        return true;
-    }
-    if 1000 < tokens[e] {
-        return true;
-    }
-    not_rising_at(source, destination, e)
-}
-
-// Number 8: the lowest edge with an end unknown, too many tokens or not above the one before it, or the number of edges.
-pub fn first_bad_edge<'a>(
-    source: &'a [u16; 512],
-    destination: &'a [u16; 512],
-    tokens: &'a [u16; 512],
-    nodes: usize,
-    edges: usize,
-) -> usize
-    requires { ⌜ edges ≤ 512 ⌝ }
-    ensures { λ r. ⌜ r ≡ first (bad-edge (now (source .entry)) (now (destination .entry)) (now (tokens .entry)) nodes) edges ⌝ }
-{
-    let mut e: usize = 0;
-    while e < edges {
-        if bad_edge_at(source, destination, tokens, nodes, e) {
-            return e;
-        }
-        e += 1;
-    }
-    e
 }
 
 // What a firing of a node adds to counter c.

@@ -340,15 +340,15 @@ fn judged_from_6(plan: Plan) -> Answer
     let tokens = plan.tokens;
     let nodes = plan.nodes as usize;
     let edges = plan.edges as usize;
-    let position = plan::first_bad_order(&order, nodes);
+    let position = entries::first_bad_order(&order, nodes);
     if position < nodes {
         return refused_at(6, position);
     }
-    let node = plan::first_bad_node(&counter, &increment, plan.counters as usize, nodes);
+    let node = entries::first_bad_node(&counter, &increment, plan.counters as usize, nodes);
     if node < nodes {
         return refused_at(7, node);
     }
-    let edge = plan::first_bad_edge(&source, &destination, &tokens, nodes, edges);
+    let edge = entries::first_bad_edge(&source, &destination, &tokens, nodes, edges);
     if edge < edges {
         return refused_at(8, edge);
     }
@@ -363,7 +363,7 @@ fn judged_from_5(plan: Plan) -> Answer
     let lengths = plan.lengths;
     let nodes = plan.nodes as usize;
     let processes = plan.processes as usize;
-    let empty = plan::first_zero_length(&lengths, processes);
+    let empty = entries::first_zero_length(&lengths, processes);
     if empty < processes {
         return refused_at(5, empty);
     }
@@ -408,7 +408,7 @@ fn read_counted(image: &[u8]) -> Reading
     requires { ⌜ (36 ≤ length (now image)) × (good-format (now image) ≡ true) ⌝ }
     ensures { λ r. ⌜ r ≡ reading-of (now (image .entry)) ⌝ }
 {
-    let counts = plan::counts_bad(
+    let counts = entries::counts_bad(
         pair_at(image, 2),
         pair_at(image, 4),
         pair_at(image, 6),

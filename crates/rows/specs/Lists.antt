@@ -1,7 +1,6 @@
 -- What is worked out of a plan's tables and a state's rows, as lists; and what is asked of those. Definitions only.
 -- Assumes nothing.
 use mathlib.Core.List.{List}
-use mathlib.Core.Bool.{Bool, false}
 use Prim.Native.Nat.{ℕ, _+_, _*_, _≤_, _<_}
 use lib.Dec.{eqb, ltb, leb}
 use lib.ListN.{replicate}
@@ -43,21 +42,6 @@ rows-above marks opened nexts destination crossing processes edges =
 -- how many marks process p's row has
 unfoldable pub row-left : List ℕ → ℕ → ℕ
 row-left marks p = sum (λ e. at marks (512 * p + e)) 512
-
--- edge e is marked for process p
-unfoldable pub marked-in : List ℕ → ℕ → ℕ → ℕ → Bool
-marked-in marks edges p e = if (leb edges e) false (eqb (at marks (512 * p + e)) 1)
-
--- the number that a call is turned down with, or 0
-unfoldable pub open-number : ℕ → List ℕ → ℕ → ℕ
-open-number processes opened p = if (leb processes p) 20 (if (eqb (at opened p) 0) 0 21)
-
-unfoldable pub look-number : ℕ → ℕ → List ℕ → List ℕ → ℕ → ℕ → ℕ
-look-number processes edges opened marks p e =
-    if (leb processes p) 20 (if (eqb (at opened p) 0) 22 (if (marked-in marks edges p e) 0 23))
-
-unfoldable pub fire-number : ℕ → List ℕ → List ℕ → ℕ → ℕ
-fire-number processes opened marks p = if (leb processes p) 20 (if (eqb (at opened p) 0) 22 (if (eqb (row-left marks p) 0) 0 24))
 
 -- what a row adds up to
 unfoldable pub row-total : List ℕ → ℕ → ℕ

@@ -7,8 +7,6 @@ ghost use Rattle.loops.specs.Table.{padded};
 ghost use Rattle.plan.specs.Value.{base};
 ghost use Rattle.rows.specs.Lists.{NextsOk, next-in, wanted, allowed-row, row-above, rows-above, row-left, row-total, with-row};
 
-pub mod refusals;
-
 // A row's number, wide enough to add up.
 fn byte(x: u8) -> u32
     ensures { λ r. ⌜ (r ≡ x) × (r ≤ 255) ⌝ }

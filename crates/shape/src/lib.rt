@@ -25,7 +25,7 @@ fn edges_fit(plan: Plan) -> bool
     let destination = plan.destination;
     let tokens = plan.tokens;
     let edges = plan.edges as usize;
-    if plan::first_bad_edge(&source, &destination, &tokens, plan.nodes as usize, edges) < edges {
+    if entries::first_bad_edge(&source, &destination, &tokens, plan.nodes as usize, edges) < edges {
         return false;
     }
     q_fits(plan)
@@ -39,7 +39,7 @@ fn nodes_fit(plan: Plan) -> bool
     let counter = plan.counter;
     let increment = plan.increment;
     let nodes = plan.nodes as usize;
-    if plan::first_bad_node(&counter, &increment, plan.counters as usize, nodes) < nodes {
+    if entries::first_bad_node(&counter, &increment, plan.counters as usize, nodes) < nodes {
         return false;
     }
     edges_fit(plan)
@@ -52,7 +52,7 @@ fn order_fits(plan: Plan) -> bool
 {
     let order = plan.order;
     let nodes = plan.nodes as usize;
-    if plan::first_bad_order(&order, nodes) < nodes {
+    if entries::first_bad_order(&order, nodes) < nodes {
         return false;
     }
     nodes_fit(plan)
@@ -65,7 +65,7 @@ fn lengths_fit(plan: Plan) -> bool
 {
     let lengths = plan.lengths;
     let processes = plan.processes as usize;
-    if plan::first_zero_length(&lengths, processes) < processes {
+    if entries::first_zero_length(&lengths, processes) < processes {
         return false;
     }
     if plan::lengths_sum(&lengths, processes) == plan.nodes as usize {
@@ -79,7 +79,7 @@ fn lengths_fit(plan: Plan) -> bool
 pub fn fits(plan: Plan) -> bool
     ensures { λ r. ⌜ r ≡ plan-fits plan ⌝ }
 {
-    if plan::counts_bad(
+    if entries::counts_bad(
         plan.nodes,
         plan.processes,
         plan.edges,

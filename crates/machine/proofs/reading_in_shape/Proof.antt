@@ -3,7 +3,7 @@ use borrow.Author.Needs.{needs}
 use Rattle.loops.specs.Choice.{ifs}
 use Rattle.plan.specs.Formed.{formed}
 use Rattle.machine.specs.Calls.{reading-in-shape}
-use Rattle.rows.specs.Limits.{limits}
+use Rattle.refusals.specs.Limits.{limits}
 use Rattle.machine.specs.InRange.{below-it, known-edge, edge-ok}
 use Rattle.machine.specs.Same.{reading-turn, no-reading}
 use Rattle.machine.proofs.reading_in_shape.Statement.{statement}

@@ -2,7 +2,7 @@
 use borrow.Author.Needs.{needs}
 use Rattle.loops.specs.Choice.{ifs}
 use Rattle.machine.specs.Calls.{state-fits, position-bad, opened-bad, counter-bad}
-use Rattle.rows.specs.Limits.{limits}
+use Rattle.refusals.specs.Limits.{limits}
 use Rattle.machine.specs.InRange.{marks-ok}
 use Rattle.machine.proofs.state_fits.Statement.{statement}
 use Rattle.machine.proofs.state_fits.Tie as tie
