@@ -27,6 +27,9 @@ abbrev pub Small : List ℕ → Type 0
 Small sums = (e : ℕ) → at sums e ≤ 101000
 
 -- number 13
+unfoldable pub free-in : List ℕ → ℕ → Bool
+free-in sums e = eqb (at sums e) 0
+
 unfoldable pub closes-free-in : List ℕ → List ℕ → ℕ → ℕ → Bool
 closes-free-in destination sums v e = both (eqb (at destination e) v) (eqb (at sums e) 0)
 

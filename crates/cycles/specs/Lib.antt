@@ -4,3 +4,5 @@ pub mod Lent
 pub mod Sums
 -- numbers that fit
 pub mod Bounds
+-- no edge closes a cycle without tokens
+pub mod Free

@@ -5,11 +5,12 @@ ghost use Prim.Native.Nat.{_+_, _*_, _<_, _≤_, max};
 ghost use lib.Dec.{eqb};
 ghost use Rattle.loops.specs.Choice.{at, if};
 ghost use Rattle.loops.specs.First.{first};
+ghost use Rattle.loops.specs.Any.{any};
 ghost use Rattle.loops.specs.Row.{stored};
 ghost use Rattle.loops.specs.Table.{padded};
 ghost use Rattle.routes.specs.Rows.{no-route};
 ghost use Rattle.routes.specs.Relaxing.{Low, EndsInRow};
-ghost use Rattle.cycles.specs.Lent.{loop-sum-in, entered, closes-free-in, on-free-cycle-in, no-way-back-in, not-above-in, asks-in, most-asked, Known, Small};
+ghost use Rattle.cycles.specs.Lent.{loop-sum-in, entered, free-in, closes-free-in, on-free-cycle-in, no-way-back-in, not-above-in, asks-in, most-asked, Known, Small};
 
 // Stands for no route back: a loop sum is lower where there is one.
 const NO_ROUTE: u32 = 100000;
@@ -89,13 +90,36 @@ pub fn loop_sums<'a>(
     sums
 }
 
+// An edge closes a cycle without tokens.
+fn is_free_at(sums: &[u32; 512], e: usize) -> bool
+    requires { ⌜ e < 512 ⌝ }
+    ensures { λ r. ⌜ r ≡ free-in (now (sums .entry)) e ⌝ }
+{
+    sums[e] == 0
+}
+
+// Some edge closes a cycle without tokens.
+fn some_free(sums: &[u32; 512], edges: usize) -> bool
+    requires { ⌜ edges ≤ 512 ⌝ }
+    ensures { λ r. ⌜ r ≡ any (free-in (now (sums .entry))) edges ⌝ }
+{
+    let mut e: usize = 0;
+    while e < edges {
+        if is_free_at(sums, e) {
+            return true;
+        }
+        e += 1;
+    }
+    false
+}
+
 // An edge ends in node v and closes a cycle without tokens.
 fn closes_free_at<'a>(destination: &'a [u16; 512], sums: &'a [u32; 512], v: usize, e: usize) -> bool
     requires { ⌜ e < 512 ⌝ }
     ensures { λ r. ⌜ r ≡ closes-free-in (now (destination .entry)) (now (sums .entry)) v e ⌝ }
 {
     if wide(destination[e]) == v {
-        sums[e] == 0
+        is_free_at(sums, e)
     } else {
         false
     }
@@ -121,8 +145,8 @@ fn on_free_cycle_at<'a>(
     false
 }
 
-// Number 13: the lowest node on a cycle without tokens, or the number of nodes.
-pub fn first_on_free_cycle<'a>(
+// The lowest node on a cycle without tokens, or the number of nodes.
+fn lowest_on_free_cycle<'a>(
     destination: &'a [u16; 512],
     sums: &'a [u32; 512],
     edges: usize,
@@ -139,6 +163,22 @@ pub fn first_on_free_cycle<'a>(
         v += 1;
     }
     v
+}
+
+// Number 13: the lowest node on a cycle without tokens, or the number of nodes; looked for only where some edge closes such a cycle.
+pub fn first_on_free_cycle<'a>(
+    destination: &'a [u16; 512],
+    sums: &'a [u32; 512],
+    edges: usize,
+    nodes: usize,
+) -> usize
+    requires { ⌜ edges ≤ 512 ⌝ }
+    ensures { λ r. ⌜ r ≡ first (on-free-cycle-in (now (destination .entry)) (now (sums .entry)) edges) nodes ⌝ }
+{
+    if some_free(sums, edges) {
+        return lowest_on_free_cycle(destination, sums, edges, nodes);
+    }
+    nodes
 }
 
 // A synchronising edge without a route back.

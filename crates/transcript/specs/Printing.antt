@@ -120,6 +120,18 @@ module _ (input : List ℕ) where
         bound = omega arith;
       }
 
+  -- with room for the longest text it is written at once
+  pub answers-at-once : (out : List ℕ) {after : List ℕ} (j : ℕ) → Put out 0 (text-of input) after j → j ≤ 409642 → 409642 ≤ length out → Answers out after (Whole j)
+  unfolding printed out-after
+  answers-at-once out j q b h =
+      let e : j ≡ length (text-of input) = omega (arith, q .next-is) in
+      let t : length (text-of input) ≤ length out = omega arith in
+      record {
+        answer-is = ap Whole e ∙ sym (if-false (ltb (length out) (length (text-of input))) _ _ (le-ltb _ _ t));
+        after-is = put-front q t ∙ sym (if-false (ltb (length out) (length (text-of input))) _ _ (le-ltb _ _ t));
+        bound = omega arith;
+      }
+
   -- the promise leaves room for one answer and one buffer
   pub one-answer : (out after after′ : List ℕ) (answer answer′ : Printed) → Answers out after answer → Answers out after′ answer′
       → (answer ≡ answer′) × (after ≡ after′)

@@ -126,11 +126,15 @@ fn put_text(input: &[u8], out: &mut [u8]) -> usize
     put_run(input, out)
 }
 
-// Writes the whole text and answers its length; what lies past it stays. It is counted first, in a buffer without room: where `out` is
-// shorter than the text nothing is written.
+// Writes the whole text and answers its length; what lies past it stays. Where `out` has no room for the longest text it is counted
+// first, in a buffer without room: where `out` is shorter than the text nothing is written.
 pub fn transcript(input: &[u8], out: &mut [u8]) -> Printed
     ensures { λ r. ⌜ Answers (now (input .entry)) (now (out .entry)) (now (out .exit)) r ⌝ }
 {
+    if 409642 <= out.len() {
+        let whole = put_text(input, out);
+        return Printed::Whole { length: whole };
+    }
     let mut no_room: [u8; 0] = [];
     let length = put_text(input, &mut no_room);
     if out.len() < length {
