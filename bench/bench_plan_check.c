@@ -1,119 +1,59 @@
-/* plan_check beside its C twin on the same plans.
+/* plan_check and plan_read beside their C twins on the same plans.
 
-     answers          the same answers on drawn images, refused ones too
-     time             time of a call on plans of each shape
-     stack            stack used, the most over drawn images and all shapes
-     shapes           the shapes' names
-     once WHO SHAPE   one call on each of a shape's 8 plans and no other, to
-                      count instructions in; WHO is plan_check or twin_check */
-#define _DEFAULT_SOURCE
-#include <pthread.h>
+     answers     the same answers on drawn images, refused ones too
+     time        nanoseconds of plan_check, its twin, plan_read and its twin,
+                 a line a shape
+     stack       bytes by value (none) and stack used, the most over drawn
+                 images and all shapes
+     shapes      name, nodes, processes, edges of each shape
+     once WHO    one call on each of the 8 plans of each shape between two
+                 marks, to count instructions there; WHO is plan_check,
+                 twin_check, plan_read or twin_read */
 #include <stdio.h>
-#include <stdlib.h>
 #include <string.h>
-#include <time.h>
 
 #include "damage.h"
-#include "draw.h"
+#include "measure.h"
+#include "plans.h"
 #include "twin.h"
 
 enum {
-    PLANS = 8,             /* of each shape */
-    BLOCKS = 60,           /* the best one counts */
-    BLOCK_STEPS = 2000000, /* of relaxation in a block, about */
-    STACK_BYTES = 1 << 20,
-    PAINT = 0xA5
+    PLANS = 8,            /* of each shape */
+    BLOCKS = 60,          /* the best one counts */
+    BLOCK_STEPS = 1000000 /* of relaxation in a block, about */
 };
 
 typedef struct plan_verdict (*checker)(const uint8_t *, size_t);
 
-struct shape {
-    const char *name;
-    uint32_t nodes, processes, edges;
-    int slow; /* the firing order runs against the edge table */
-};
-
-static const struct shape shapes[] = {{"4", 4, 2, 12, 0},
-                                      {"16", 16, 4, 128, 0},
-                                      {"64", 64, 8, 512, 0},
-                                      {"64-slow", 64, 1, 512, 1}};
+/* How the cost grows by nodes at three edges a node, and by edges at 64 nodes
+   (64 edges: process edges only; slow: as many rounds as there can be). */
+static const struct shape shapes[] = {
+    {"n4", 4, 2, 12, 1, 0, 0},     {"n8", 8, 2, 24, 1, 0, 0},
+    {"n16", 16, 4, 48, 1, 0, 0},   {"n32", 32, 4, 96, 1, 0, 0},
+    {"n64", 64, 8, 192, 1, 0, 0},  {"e64", 64, 8, 64, 8, 0, 0},
+    {"e128", 64, 8, 128, 1, 0, 0}, {"e256", 64, 8, 256, 1, 0, 0},
+    {"e512", 64, 8, 512, 1, 0, 0}, {"slow", 64, 1, 512, 1, 0, 1}};
 enum { SHAPES = sizeof shapes / sizeof shapes[0] };
 
-static struct picture plan[SHAPES][PLANS];
-
-/* Ends the program. */
-static void give_up(const char *what)
-{
-    fprintf(stderr, "bench: %s\n", what);
-    exit(1);
-}
+static struct picture plan[PLANS];
 
 static int same(struct plan_verdict a, struct plan_verdict b)
 {
     return a.number == b.number && a.place == b.place && a.least == b.least;
 }
 
-/* A plan of a shape, all of it one part. */
-static void draw_shape(const struct shape *shape, struct random *random,
-                       struct sketch *sketch)
-{
-    struct wish wish = {0};
-    wish.nodes = shape->nodes;
-    wish.processes = shape->processes;
-    wish.edges = shape->edges;
-    wish.parts = 1;
-    do
-        draw_plan(random, &wish, sketch);
-    while (sketch->edges != shape->edges);
-}
-
-/* One process that fires from the highest node down: each round of a row
-   carries a route one node further, so there are as many rounds as nodes. */
-static void draw_slow(const struct shape *shape, struct random *random,
-                      struct sketch *sketch)
-{
-    memset(sketch, 0, sizeof *sketch);
-    sketch->nodes = shape->nodes;
-    sketch->processes = sketch->counters = sketch->modulus = 1;
-    sketch->length[0] = shape->nodes;
-    sketch->increment[0] = 1;
-    for (uint32_t i = 0; i < shape->nodes; i++) {
-        uint32_t node = shape->nodes - 1 - i;
-        sketch->order[i] = node;
-        sketch_add_edge(sketch, node, node > 0 ? node - 1 : shape->nodes - 1,
-                        node == 0);
-    }
-    while (sketch->edges < shape->edges) {
-        uint32_t low = random_below(random, shape->nodes);
-        uint32_t high = random_below(random, shape->nodes);
-        if (low < high)
-            sketch_add_edge(sketch, low, high,
-                            random_between(random, 2, 1000));
-    }
-}
-
-/* Draws the plans of a shape, the same ones each time. */
+/* Draws the plans of a shape, the same ones each time. All are accepted. */
 static void draw_plans(uint32_t shape)
 {
     static struct sketch sketch;
     struct random random = {20240229};
     for (uint32_t i = 0; i < PLANS; i++) {
-        if (shapes[shape].slow)
-            draw_slow(&shapes[shape], &random, &sketch);
-        else
-            draw_shape(&shapes[shape], &random, &sketch);
-        sketch_picture(&sketch, &plan[shape][i]);
-    }
-}
-
-/* Every plan to measure with has to be accepted, by both alike. */
-static void expect_accepted(uint32_t shape)
-{
-    for (uint32_t i = 0; i < PLANS; i++) {
-        const struct picture *p = &plan[shape][i];
-        struct plan_verdict got = plan_check(p->bytes, p->length);
+        struct plan_verdict got;
+        draw_shape(&shapes[shape], &random, &sketch);
+        sketch_picture(&sketch, &plan[i]);
+        got = plan_check(plan[i].bytes, plan[i].length);
         if (got.number != PLAN_ACCEPTED ||
-            !same(got, twin_check(p->bytes, p->length)))
+            !same(got, twin_check(plan[i].bytes, plan[i].length)))
             give_up("a plan to measure with is not accepted");
     }
 }
@@ -137,33 +77,64 @@ static unsigned long answered;
 
 static void compare_answers(const struct picture *picture)
 {
+    static struct plan_reading host, twin;
     if (!same(plan_check(picture->bytes, picture->length),
               twin_check(picture->bytes, picture->length)))
         give_up("plan_check and its twin differ");
+    host = plan_read(picture->bytes, picture->length);
+    twin = twin_read(picture->bytes, picture->length);
+    if (memcmp(&host, &twin, sizeof host) != 0)
+        give_up("plan_read and its twin differ");
     answered++;
 }
 
 static void show_answers(void)
 {
     for_each_damage(60, compare_answers);
-    printf("answers: %lu images, 0 differed\n", answered);
+    printf("answers of the check and of the reading: %lu images, 0 differed\n",
+           answered);
 }
 
-/* Time of the processor spent so far, in nanoseconds. */
-static double now(void)
+static struct plan_reading reading;
+
+static struct plan_verdict verdict_of(const struct plan_reading *from)
 {
-    struct timespec time;
-    clock_gettime(CLOCK_PROCESS_CPUTIME_ID, &time);
-    return (double)time.tv_sec * 1e9 + (double)time.tv_nsec;
+    struct plan_verdict verdict;
+    verdict.number = from->number;
+    verdict.place = from->place;
+    verdict.least = from->least;
+    return verdict;
 }
 
-/* Nanoseconds a call, over one block of calls on a shape's plans. */
-static double time_block(checker check, uint32_t shape, uint32_t calls)
+static struct plan_verdict check_by_read(const uint8_t *image, size_t length)
+{
+    reading = plan_read(image, length);
+    return verdict_of(&reading);
+}
+
+static struct plan_verdict check_by_twin_read(const uint8_t *image,
+                                              size_t length)
+{
+    reading = twin_read(image, length);
+    return verdict_of(&reading);
+}
+
+static const struct {
+    const char *name;
+    checker check;
+} checkers[] = {{"plan_check", plan_check},
+                {"twin_check", twin_check},
+                {"plan_read", check_by_read},
+                {"twin_read", check_by_twin_read}};
+enum { CHECKERS = 4 };
+
+/* Nanoseconds a call, over one block of calls on the plans. */
+static double time_block(checker check, uint32_t calls)
 {
     volatile uint32_t sink;
     double began = now();
     for (uint32_t i = 0; i < calls; i++) {
-        const struct picture *p = &plan[shape][i % PLANS];
+        const struct picture *p = &plan[i % PLANS];
         sink = check(p->bytes, p->length).least;
     }
     (void)sink;
@@ -176,82 +147,80 @@ static void show_time(uint32_t shape)
     uint32_t steps = shapes[shape].nodes * shapes[shape].edges *
                      (shapes[shape].slow ? shapes[shape].nodes : 4);
     uint32_t calls = (BLOCK_STEPS / steps / PLANS + 1) * PLANS;
-    double host = 1e18, twin = 1e18;
+    double best[CHECKERS] = {1e18, 1e18, 1e18, 1e18};
     draw_plans(shape);
-    expect_accepted(shape);
-    for (int block = 0; block < BLOCKS; block++) {
-        double a = time_block(plan_check, shape, calls);
-        double b = time_block(twin_check, shape, calls);
-        host = a < host ? a : host;
-        twin = b < twin ? b : twin;
-    }
-    printf("%-8s %5u %9u %5u %13.0f %13.0f %6.2f%s\n", shapes[shape].name,
-           (unsigned)shapes[shape].nodes, (unsigned)shapes[shape].processes,
-           (unsigned)shapes[shape].edges, host, twin, host / twin,
-           host / twin > 1.25 ? "  above 1.25" : "");
+    for (int block = 0; block < BLOCKS; block++)
+        for (uint32_t i = 0; i < CHECKERS; i++)
+            best[i] = lower(best[i], time_block(checkers[i].check, calls));
+    printf("%.0f %.0f %.0f %.0f\n", best[0], best[1], best[2], best[3]);
 }
 
-/* A call on a stack of its own. */
-struct call {
-    checker check;
-    const struct picture *picture;
-    uint8_t *top; /* about where the call's own stack begins */
-};
-
-static void *run_call(void *argument)
+static void show_times(void)
 {
-    struct call *call = argument;
+    for (uint32_t i = 0; i < SHAPES; i++)
+        show_time(i);
+}
+
+static const struct picture *lent;
+
+static void call_check(void)
+{
     volatile uint8_t here = 0;
-    call->top = (uint8_t *)&here;
-    call->check(call->picture->bytes, call->picture->length);
-    return NULL;
+    stack_begins(&here);
+    plan_check(lent->bytes, lent->length);
 }
 
-/* Bytes of stack below the caller's frame that a call has written to. */
-static size_t stack_of(checker check, const struct picture *picture)
+static void call_twin_check(void)
 {
-    static uint8_t *stack;
-    struct call call;
-    pthread_attr_t attributes;
-    pthread_t thread;
-    size_t untouched = 0;
-    call.check = check;
-    call.picture = picture;
-    check(picture->bytes, picture->length); /* the loader binds memcpy here */
-    if (stack == NULL && posix_memalign((void **)&stack, 4096, STACK_BYTES))
-        give_up("no memory");
-    memset(stack, PAINT, STACK_BYTES);
-    if (pthread_attr_init(&attributes) ||
-        pthread_attr_setstack(&attributes, stack, STACK_BYTES) ||
-        pthread_create(&thread, &attributes, run_call, &call) ||
-        pthread_join(thread, NULL))
-        give_up("no thread");
-    pthread_attr_destroy(&attributes);
-    while (stack[untouched] == PAINT)
-        untouched++;
-    return (size_t)(call.top - (stack + untouched));
+    volatile uint8_t here = 0;
+    stack_begins(&here);
+    twin_check(lent->bytes, lent->length);
 }
 
-static size_t most_host, most_twin, most_nothing;
-
-static struct plan_verdict check_nothing(const uint8_t *image, size_t length)
+static struct plan_reading read_here(void)
 {
-    struct plan_verdict verdict = {0, 0, 0};
-    (void)image;
-    (void)length;
-    return verdict;
+    volatile uint8_t here = 0;
+    stack_begins(&here);
+    return plan_read(lent->bytes, lent->length);
 }
 
-static size_t larger(size_t a, size_t b)
+static struct plan_reading read_twin_here(void)
 {
-    return a > b ? a : b;
+    volatile uint8_t here = 0;
+    stack_begins(&here);
+    return twin_read(lent->bytes, lent->length);
 }
+
+/* Through pointers, so that the reading itself lies above what is counted. */
+static struct plan_reading (*volatile reader)(void);
+
+static void call_read(void)
+{
+    reader = read_here;
+    reading = reader();
+}
+
+static void call_twin_read(void)
+{
+    reader = read_twin_here;
+    reading = reader();
+}
+
+static struct {
+    const char *name;
+    void (*call)(void);
+    size_t most;
+} stacks[] = {{"plan_check", call_check, 0},
+              {"twin_check", call_twin_check, 0},
+              {"plan_read", call_read, 0},
+              {"twin_read", call_twin_read, 0}};
+enum { STACKS = sizeof stacks / sizeof stacks[0] };
 
 static void measure_stack(const struct picture *picture)
 {
-    most_host = larger(most_host, stack_of(plan_check, picture));
-    most_twin = larger(most_twin, stack_of(twin_check, picture));
-    most_nothing = larger(most_nothing, stack_of(check_nothing, picture));
+    lent = picture;
+    for (uint32_t i = 0; i < STACKS; i++)
+        stacks[i].most = larger(stacks[i].most, stack_of(stacks[i].call));
 }
 
 static void show_stack(void)
@@ -259,43 +228,36 @@ static void show_stack(void)
     for (uint32_t i = 0; i < SHAPES; i++) {
         draw_plans(i);
         for (uint32_t j = 0; j < PLANS; j++)
-            measure_stack(&plan[i][j]);
+            measure_stack(&plan[j]);
     }
     for_each_damage(4, measure_stack);
-    printf("stack: plan_check %lu bytes%s, twin_check %lu bytes (an empty "
-           "call %lu)\n",
-           (unsigned long)most_host, most_host > 8192 ? " (above 8 KiB)" : "",
-           (unsigned long)most_twin, (unsigned long)most_nothing);
+    for (uint32_t i = 0; i < STACKS; i++)
+        printf("%s 0 %lu\n", stacks[i].name,
+               (unsigned long)stacks[i].most);
 }
 
-/* One call on each plan of a shape. */
-static void call_once(const char *who, const char *shape)
+/* One call on each plan of each shape. */
+static void call_once(checker check)
 {
-    checker check = strcmp(who, "twin_check") == 0 ? twin_check : plan_check;
-    for (uint32_t i = 0; i < SHAPES; i++)
-        if (strcmp(shape, shapes[i].name) == 0) {
-            draw_plans(i);
-            time_block(check, i, PLANS);
-        }
-}
-
-static void show_times(void)
-{
-    printf("shape    nodes processes edges plan_check/ns twin_check/ns "
-           "ratio\n");
-    for (uint32_t i = 0; i < SHAPES; i++)
-        show_time(i);
+    for (uint32_t i = 0; i < SHAPES; i++) {
+        draw_plans(i);
+        mark();
+        time_block(check, PLANS);
+        mark();
+    }
 }
 
 static void show_shapes(void)
 {
     for (uint32_t i = 0; i < SHAPES; i++)
-        printf("%s\n", shapes[i].name);
+        printf("%s %u %u %u\n", shapes[i].name, (unsigned)shapes[i].nodes,
+               (unsigned)shapes[i].processes, (unsigned)shapes[i].edges);
 }
 
 int main(int arguments, char **argument)
 {
     const char *what = arguments > 1 ? argument[1] : "";
+    const char *who = arguments > 2 ? argument[2] : "";
     if (strcmp(what, "answers") == 0)
         show_answers();
     else if (strcmp(what, "time") == 0)
@@ -304,9 +266,11 @@ int main(int arguments, char **argument)
         show_stack();
     else if (strcmp(what, "shapes") == 0)
         show_shapes();
-    else if (strcmp(what, "once") == 0 && arguments == 4)
-        call_once(argument[2], argument[3]);
-    else
-        give_up("answers, time, stack, shapes, or once WHO SHAPE");
+    else if (strcmp(what, "once") == 0) {
+        for (uint32_t i = 0; i < CHECKERS; i++)
+            if (strcmp(who, checkers[i].name) == 0)
+                call_once(checkers[i].check);
+    } else
+        give_up("answers, time, stack, shapes, or once WHO");
     return 0;
 }

@@ -17,8 +17,9 @@
      aligns it, every byte of it set; never NULL. They do not overlap. Nothing
      writes to the plan, and nothing reads or writes the state, before the
      call returns: one caller at a time for one state.
-   - The stack has room for the call (bench/README.md says how much). Structs
-     by value lie on it too: a state has 33,220 bytes.
+   - The stack has room for the call: run_step and run_stepped take up to
+     400 KiB, run_tokens 164 KiB, plan_check and plan_read 42 KiB, run_begin
+     8 KiB, structs by value included (docs/SPEED.md).
 
    The calls write to no byte of the image or of the plan, and to none of the
    state but in run_step. They keep no state of their own, take no lock, ask
