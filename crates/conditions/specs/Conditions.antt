@@ -3,7 +3,7 @@
 use mathlib.Core.Path.{_≡_}
 use Prim.Native.Nat.{ℕ, _+_, _*_, _≤_, _<_}
 use Rattle.loops.specs.Choice.{at}
-use Rattle.net.specs.Graph.{Graph, Emptiest, EveryCycleHolds}
+use Rattle.net.specs.Graph.{Emptiest, EveryCycleHolds}
 use Rattle.plan.specs.declared.Plan.{Plan}
 use Rattle.plan.specs.Value.{graph-of, InProcess, Synchronising, counter-sum}
 

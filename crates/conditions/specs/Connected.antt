@@ -1,21 +1,20 @@
 -- In an accepted plan every weakly connected part is strongly connected (000 asks for a strongly connected graph; 01 allows parts).
 -- Assumes nothing.
-use mathlib.Core.Path.{_≡_, refl, sym, ap, ap₂, _∙_, subst}
-use mathlib.Core.List.{List, [], _∷_, _++_}
-use mathlib.Core.Logic.{_≢_}
-use Prim.Native.Nat.{ℕ, suc, _+_, _-_, _≤_, _<_}
+use mathlib.Core.Path.{_≡_, refl, sym, ap, _∙_}
+use mathlib.Core.List.{[], _∷_, _++_}
+use Prim.Native.Nat.{ℕ, _+_, _-_, _<_}
 use native.Mathlib.Omega.{arith}
 use native.Mathlib.Decide.{ℕ-discrete, decLe}
 use Rattle.loops.specs.Choice.{at}
-use Rattle.net.specs.Graph.{Graph, Shaped, Route, Linked}
+use Rattle.net.specs.Graph.{Graph, Route, Linked}
 use Rattle.net.specs.Append.{route-append}
 use Rattle.net.specs.Processes.{Seats}
 use Rattle.net.specs.Seating.{seats-of}
 use Rattle.net.specs.ProcessEdges.{ride}
 use Rattle.net.specs.Tables.{graph-of-tables}
 use Rattle.plan.specs.declared.Plan.{Plan}
-use Rattle.plan.specs.Value.{graph-of, node-at, HasProcesses, InProcess, Synchronising}
-use Rattle.plan.specs.Formed.{Tabled, shaped}
+use Rattle.plan.specs.Value.{graph-of, node-at, HasProcesses, InProcess}
+use Rattle.plan.specs.Formed.{Tabled}
 use Rattle.conditions.specs.Conditions.{RouteBack, Exceeds, C4}
 use Rattle.conditions.specs.Sound.{Upheld}
 

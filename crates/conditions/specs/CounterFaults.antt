@@ -1,21 +1,21 @@
 -- Tests 10, 11 and 12 are faults 10, 11 and 12, and C1, C2 and C3 are that there are none.
 -- Assumes nothing.
-use mathlib.Core.Path.{_≡_, refl, sym, ap, _∙_, subst}
-use mathlib.Core.Bool.{Bool, true, false, not}
+use mathlib.Core.Path.{_≡_, refl, sym, ap, _∙_}
+use mathlib.Core.Bool.{true, not}
 use mathlib.Core.Logic.{_⊎_, inl, inr, _↔_, _≢_}
-use Prim.Native.Nat.{ℕ, _+_, _≤_, _<_}
+use Prim.Native.Nat.{ℕ, _<_}
 use native.Mathlib.Omega.{arith}
 use native.Mathlib.Decide.{ℕ-discrete, decLt}
 use lib.Dec.{eqb}
 use borrow.Author.Tests.{eq-eqb, ne-eqb, eqb-true, eqb-false}
-use Rattle.loops.specs.Choice.{at, both, both-true, both-intro, either, either-true, either-left, either-right, true-false, not-true, not-false, not-is-true}
-use Rattle.loops.specs.First.{first, first-le, first-below, first-here}
-use Rattle.loops.specs.Any.{any, any-some, any-from}
+use Rattle.loops.specs.Choice.{at, both-true, both-intro, either, either-true, either-left, either-right, true-false, not-is-true}
+use Rattle.loops.specs.First.{first, first-below, first-here}
+use Rattle.loops.specs.Any.{any-some, any-from}
 use Rattle.net.specs.Tables.{graph-of-tables}
 use Rattle.plan.specs.declared.Plan.{Plan}
 use Rattle.plan.specs.Value.{graph-of, InProcess, Synchronising, counter-sum}
-use Rattle.plan.specs.Tests.{home, seat, synchronises}
-use Rattle.plan.specs.Formed.{Tabled, shaped}
+use Rattle.plan.specs.Tests.{home, seat}
+use Rattle.plan.specs.Formed.{Tabled}
 use Rattle.plan.specs.Seating.{sits, sits-unique, synchronises-exactly}
 use Rattle.conditions.specs.Conditions.{C1, C2, C3}
 use Rattle.conditions.specs.Faults.{Fault10, Fault11, Fault12}

@@ -1,6 +1,5 @@
 -- No fault 9 to 16 exactly where the plan has its processes and C0 to C4 hold.
 -- Assumes nothing.
-use mathlib.Core.Path.{_≡_}
 use mathlib.Core.Logic.{_↔_}
 use Prim.Native.Nat.{ℕ, _≤_}
 use Rattle.plan.specs.declared.Plan.{Plan}

@@ -5,7 +5,7 @@ use mathlib.Core.List.{List}
 use mathlib.Core.Logic.{_⊎_, _≢_}
 use Prim.Native.Nat.{ℕ, suc, _+_, _*_, _≤_, _<_}
 use Rattle.loops.specs.Choice.{at}
-use Rattle.net.specs.Graph.{Graph, Linked, Cycle, tokens-on}
+use Rattle.net.specs.Graph.{Linked, Cycle, tokens-on}
 use Rattle.net.specs.Processes.{Edge}
 use Rattle.plan.specs.declared.Plan.{Plan}
 use Rattle.plan.specs.Value.{graph-of, base, node-at, InProcess, Synchronising, counter-sum}

@@ -1,20 +1,20 @@
 -- The least modulus is the smallest number that passes 15 and 16; it is Q where no edge synchronises.
 -- Assumes nothing.
-use mathlib.Core.Path.{_≡_, refl, sym, ap, _∙_}
-use mathlib.Core.Bool.{Bool, true, false}
+use mathlib.Core.Path.{_≡_, refl, ap, _∙_}
+use mathlib.Core.Bool.{false}
 use mathlib.Core.Logic.{inl, inr}
 use Prim.Native.Nat.{ℕ, zero, suc, _+_, _*_, _≤_, _<_, max}
 use native.Mathlib.Omega.{arith}
 use native.Mathlib.Decide.{ℕ-discrete, decLt}
 use native.Mathlib.Nat.{mul-le-mul-left, mul-one}
-use Rattle.loops.specs.Choice.{at, if, if-true, if-false, true-or-false, not-true}
+use Rattle.loops.specs.Choice.{at, if-true, if-false, true-or-false, not-true}
 use Rattle.loops.specs.Fold.{fold}
 use Rattle.plan.specs.declared.Plan.{Plan}
 use Rattle.plan.specs.Value.{Synchronising, counter-sum}
 use Rattle.plan.specs.Tests.{synchronises}
 use Rattle.plan.specs.Formed.{Tabled}
 use Rattle.plan.specs.Seating.{synchronises-exactly}
-use Rattle.conditions.specs.Conditions.{RouteBack, Multiple, Exceeds, LeastModulus}
+use Rattle.conditions.specs.Conditions.{Multiple, Exceeds, LeastModulus}
 use Rattle.conditions.specs.Faults.{Fault14}
 use Rattle.conditions.specs.Tests.{loop-sum, asks, least-modulus}
 use Rattle.conditions.specs.RouteFaults.{loops-known, loop-known}

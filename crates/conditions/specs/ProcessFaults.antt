@@ -1,18 +1,16 @@
 -- Test 9 is fault 9: a position is bad exactly where its process edge is missing or has wrong tokens.
 -- Assumes nothing.
 use mathlib.Core.Path.{_≡_, refl, sym, ap, ap₂, _∙_, subst}
-use mathlib.Core.List.{List}
 use mathlib.Core.Bool.{Bool, true, false, not}
 use mathlib.Core.Logic.{_↔_}
-use Prim.Native.Nat.{ℕ, suc, _+_, _-_, _≤_, _<_}
+use Prim.Native.Nat.{ℕ, suc, _+_, _-_, _<_}
 use native.Mathlib.Omega.{arith}
 use native.Mathlib.Decide.{ℕ-discrete}
-use lib.Dec.{eqb, eqb→eq}
+use lib.Dec.{eqb}
 use borrow.Author.Tests.{eq-eqb, ne-eqb, eqb-true}
-use Rattle.loops.specs.Choice.{at, if, both, both-true, both-intro, if-true, if-false, true-false, not-true, not-false, not-is-true}
+use Rattle.loops.specs.Choice.{at, both-true, both-intro, if-true, if-false, true-false, not-true, not-false, not-is-true}
 use Rattle.loops.specs.Any.{any, any-some, any-from}
 use Rattle.loops.specs.Sum.{sum}
-use Rattle.net.specs.Graph.{Graph}
 use Rattle.net.specs.Processes.{Edge}
 use Rattle.net.specs.Tables.{graph-of-tables}
 use Rattle.plan.specs.declared.Plan.{Plan}

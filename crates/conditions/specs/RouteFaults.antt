@@ -2,28 +2,27 @@
 -- Assumes nothing.
 use mathlib.Core.Path.{_≡_, refl, sym, ap, _∙_, subst}
 use mathlib.Core.List.{List, [], _∷_, _++_}
-use mathlib.Core.Bool.{Bool, true, false, not}
-use mathlib.Core.Logic.{_⊎_, inl, inr, _↔_, _≢_}
-use Prim.Native.Nat.{ℕ, suc, _+_, _*_, _/_, _%_, _≤_, _<_}
+use mathlib.Core.Bool.{true, not}
+use mathlib.Core.Logic.{_↔_}
+use Prim.Native.Nat.{ℕ, _+_, _*_, _/_, _%_, _≤_, _<_}
 use native.Mathlib.Omega.{arith}
 use native.Mathlib.Decide.{ℕ-discrete, decLt}
 use native.Mathlib.Nat.{not-suc-le-zero, div-add-mod, mul-mod-right}
-use lib.Dec.{eqb, leb}
+use lib.Dec.{eqb}
 use lib.ListN.{length, length-append}
 use borrow.Author.Tests.{eq-eqb, ne-eqb, eqb-true, eqb-false, leb-true, le-leb}
-use Rattle.loops.specs.Choice.{at, both, both-true, both-intro, true-false, not-true, not-is-true}
-use Rattle.loops.specs.Any.{any, any-some, any-from}
-use Rattle.net.specs.Graph.{Graph, Shaped, Route, Linked, Emptiest, Cycle, EveryCycleHolds, tokens-on}
+use Rattle.loops.specs.Choice.{at, both-true, both-intro, not-is-true}
+use Rattle.loops.specs.Any.{any-some, any-from}
+use Rattle.net.specs.Graph.{Graph, Shaped, Route, Linked, EveryCycleHolds, tokens-on}
 use Rattle.net.specs.Append.{tokens-on-append, route-append}
 use Rattle.net.specs.Tables.{graph-of-tables}
 use Rattle.plan.specs.declared.Plan.{Plan}
 use Rattle.plan.specs.Value.{graph-of, Synchronising, counter-sum}
-use Rattle.plan.specs.Tests.{synchronises}
 use Rattle.routes.specs.Rows.{no-route, emptiest-row}
-use Rattle.routes.specs.Emptiest.{rows-are-emptiest, row-some, row-emptiest, row-small, row-is}
+use Rattle.routes.specs.Emptiest.{row-some, row-emptiest, row-small, row-is}
 use Rattle.plan.specs.Formed.{Tabled, shaped}
 use Rattle.plan.specs.Seating.{synchronises-exactly}
-use Rattle.conditions.specs.Conditions.{RouteBack, C0, C3, Multiple, Exceeds, C4}
+use Rattle.conditions.specs.Conditions.{RouteBack, C0, Multiple, Exceeds, C4}
 use Rattle.conditions.specs.Faults.{Fault13, Fault14, Fault15, Fault16}
 use Rattle.conditions.specs.Tests.{loop-sum, closes-free, on-free-cycle, no-way-back, not-multiple, not-above-bound}
 

@@ -1,7 +1,6 @@
 -- Tests 9 to 16 and the least modulus, as the program works them out.
 -- Assumes nothing.
 use Prim.Native.Nat.{ℕ, suc, _+_, _*_, _%_, max}
-use mathlib.Core.List.{List}
 use mathlib.Core.Bool.{Bool, not}
 use lib.Dec.{eqb, ltb, leb}
 use Rattle.loops.specs.Choice.{at, if, both, either}

@@ -1,14 +1,14 @@
 -- The starred lines of 01 under one theorem: the plans with their answers, and the run case of the last line; plan P's run. By computation.
 -- Assumes nothing.
-use mathlib.Core.Path.{_≡_, refl, sym, ap, ap₂, _∙_}
-use mathlib.Core.Bool.{Bool, true, false}
-use lib.Dec.{eqb, ltb}
+use mathlib.Core.Path.{_≡_, refl, sym, ap, _∙_}
+use mathlib.Core.Bool.{true}
+use lib.Dec.{ltb}
 use native.Mathlib.Omega.{arith}
 use borrow.Author.Tests.{ltb-true, ne-eqb}
 use mathlib.Core.Logic.{inl, inr}
 use mathlib.Core.List.{List, [], _∷_, map}
 use Prim.Native.Nat.{ℕ, zero, suc}
-use Rattle.loops.specs.Choice.{at, if, both, either, one-if, if-true, if-false, true-or-false}
+use Rattle.loops.specs.Choice.{if, both, either, one-if, if-true, if-false, true-or-false}
 use Rattle.loops.specs.First.{first, firstOf}
 use Rattle.loops.specs.Any.{any, anyOf}
 use Rattle.loops.specs.Sum.{sum}
@@ -27,7 +27,6 @@ use Rattle.reader.specs.Tests.{verdict}
 use Rattle.reader.specs.Starred.{starred-plans}
 use Rattle.reader.specs.Theorems.{accepted-sound}
 use Rattle.machine.specs.declared.State.{State}
-use Rattle.machine.specs.declared.Turned.{Turned}
 use Rattle.machine.specs.declared.Reply.{Reply}
 use Rattle.machine.specs.declared.Reply.the-variants as reply
 use Rattle.machine.specs.States.{spot, mark, next-node, fresh}

@@ -6,7 +6,7 @@ use mathlib.Core.List.{List}
 use mathlib.Core.Logic.{_↔_, inl, inr}
 use Prim.Native.Nat.{ℕ, _+_, _*_, _%_, _≤_, _<_}
 use native.Mathlib.Omega.{arith}
-use Rattle.loops.specs.Choice.{at, if-true}
+use Rattle.loops.specs.Choice.{at}
 use Rattle.loops.specs.Sum.{sum}
 use Rattle.net.specs.Graph.{Marking, firings, tokens-on, Route, Fireable, Legal, Emptiest, Linked}
 use Rattle.net.specs.Tables.{graph-of-tables}
@@ -15,14 +15,13 @@ use Rattle.net.specs.Tokens as token-laws
 use Rattle.plan.specs.declared.Plan.{Plan}
 use Rattle.plan.specs.Value.{graph-of, InProcess, share}
 use Rattle.plan.specs.Faults.{InShape}
-use Rattle.plan.specs.Tests.{plan-fits}
-use Rattle.plan.specs.Formed.{fits-exactly, formed, shaped}
+use Rattle.plan.specs.Formed.{formed, shaped}
 use Rattle.conditions.specs.Sound.{Sound}
 use Rattle.machine.specs.declared.State.{State}
 use Rattle.machine.specs.declared.Reply.{Reply}
 use Rattle.machine.specs.declared.Reply.the-variants.{Fired, Refused}
 use Rattle.machine.specs.States.{mark, next-node, fresh, Sized, StateInShape}
-use Rattle.machine.specs.Calls.{marks-left, both-fit, begin-run}
+use Rattle.machine.specs.Calls.{marks-left, both-fit}
 use Rattle.machine.specs.Runs.{Call, turn, replies, last-state, fired-in, run-firings}
 use Rattle.machine.specs.ShapeKept as kept
 use Rattle.machine.specs.ShapeKept.{kept-exactly, reached-kept}
@@ -58,11 +57,6 @@ module _ (pl : Plan) where
 
 -- ---- the shape
 module _ (pl : Plan) (shape : InShape pl) where
-  -- a run of a plan in shape begins with a fresh state
-  pub begins-fresh : begin-run pl ≡ record { number = 0; state = fresh }
-  unfolding begin-run
-  begins-fresh = if-true (plan-fits pl) _ _ (fits-exactly pl .1 shape)
-
   -- every state reached is in shape, with lists of the right lengths
   pub shape-kept : (cs : List Call) → StateInShape pl (state-after pl cs) × Sized (state-after pl cs)
   shape-kept cs = kept-exactly pl shape (state-after pl cs) .0 (reached-kept pl shape cs)

@@ -1,6 +1,5 @@
 -- The numbers that the host gets back (01: "it calls the plan check with the image's bytes and gets numbers back"), for each case of each answer.
 -- Definitions only. Assumes nothing.
-use Prim.Native.Nat.{ℕ}
 use Rattle.plan.specs.declared.Plan.{Plan}
 use Rattle.conditions.specs.declared.Answer.{Answer}
 use Rattle.conditions.specs.declared.Answer.the-variants.{Accepted, Refused}

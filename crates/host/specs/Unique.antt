@@ -1,6 +1,6 @@
 -- Each export's promise leaves room for one answer, and that of `run_step` for one state afterwards.
 -- Assumes nothing.
-use mathlib.Core.Path.{_≡_}
+use mathlib.Core.Path.{_≡_, ap, _∙_}
 use mathlib.Core.List.{List}
 use Prim.Native.Nat.{ℕ}
 use Rattle.plan.specs.declared.Plan.{Plan}
@@ -34,8 +34,10 @@ pub step-unique : (pl : Plan) (st : State) (code p e : ℕ) {r r′ : CallAnswer
 step-unique pl st code p e kept kept′ = (one-answer (kept .0) (kept′ .0), one-answer (kept .1) (kept′ .1))
 
 pub stepped-unique : (pl : Plan) (st : State) (code p e : ℕ) {r r′ : Stepped}
-    → StepPromise pl st code p e (r .answer) (r .state) → StepPromise pl st code p e (r′ .answer) (r′ .state) → (r .answer ≡ r′ .answer) × (r .state ≡ r′ .state)
-stepped-unique pl st code p e = step-unique pl st code p e
+    → StepPromise pl st code p e (r .answer) (r .state) → StepPromise pl st code p e (r′ .answer) (r′ .state) → r ≡ r′
+stepped-unique pl st code p e {r} {r′} kept kept′ =
+    let q = step-unique pl st code p e kept kept′ in
+    ap (λ a. record { answer = a; state = r .state }) (q .0) ∙ ap (λ s. record { answer = r′ .answer; state = s }) (q .1)
 
 pub tokens-unique : (pl : Plan) (st : State) (e : ℕ) {r r′ : TokenAnswer} → r ≡ numbers-of-level (reading-call pl st e) → r′ ≡ numbers-of-level (reading-call pl st e) → r ≡ r′
 tokens-unique pl st e = one-answer

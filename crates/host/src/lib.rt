@@ -137,7 +137,7 @@ pub extern "C" fn run_stepped(
 ) -> Stepped
     ensures { λ r. ⌜ (r .answer ≡ numbers-of-reply (step-call plan state code process edge .reply)) × (r .state ≡ step-call plan state code process edge .state) ⌝ }
 {
-    let turned = machine::step(plan, state, code, process, edge);
+    let turned = calls::step(plan, state, code, process, edge);
     let reply = turned.reply;
     let after = turned.state;
     Stepped {
@@ -197,7 +197,7 @@ pub extern "C" fn plan_read(image: &[u8]) -> PlanRead
 pub extern "C" fn run_begin(plan: Plan) -> Begun
     ensures { λ r. ⌜ r ≡ numbers-of-begin (begin-run plan) ⌝ }
 {
-    let began = machine::begin(plan);
+    let began = calls::begin(plan);
     let state = began.state;
     Begun {
         number: began.number,
@@ -226,5 +226,5 @@ pub extern "C" fn run_step<'a, 'b>(
 pub extern "C" fn run_tokens(plan: Plan, state: State, edge: u32) -> TokenAnswer
     ensures { λ r. ⌜ r ≡ numbers-of-level (reading-call plan state edge) ⌝ }
 {
-    as_token_answer(machine::token_reading(plan, state, edge))
+    as_token_answer(calls::token_reading(plan, state, edge))
 }

@@ -2,28 +2,24 @@
 -- the same state from every call, and the same reading. Statements of each call; `Theorems` has them for any call.
 -- Assumes nothing.
 use mathlib.Core.Path.{_≡_, refl, ap, _∙_}
-use mathlib.Core.List.{List}
 use mathlib.Core.Bool.{Bool, true, false}
-use Prim.Native.Nat.{ℕ, zero, suc, _+_, _-_, _*_, _≤_, _<_}
+use Prim.Native.Nat.{ℕ, _-_, _*_, _<_}
 use native.Mathlib.Omega.{arith}
 use borrow.Author.Tests.{ltb-true, leb-false}
 use lib.Dec.{eqb, ltb, leb}
-use lib.ListN.{set}
-use Rattle.loops.specs.Choice.{at, if, both, one-if, if-false, both-true}
-use Rattle.loops.specs.First.{first-le}
+use Rattle.loops.specs.Choice.{at, if, both, one-if, both-true}
 use Rattle.loops.specs.Sum.{sum, sum-same}
-use Rattle.loops.specs.Row.{stored}
 use Rattle.plan.specs.declared.Plan.{Plan}
-use Rattle.plan.specs.Value.{base, node-at, share}
-use Rattle.plan.specs.Tests.{place-of, stands-at, home, seat, synchronises, plan-fits}
+use Rattle.plan.specs.Value.{node-at, share}
+use Rattle.plan.specs.Tests.{home, seat, synchronises, plan-fits}
 use Rattle.plan.specs.Formed.{Tabled, formed, fits-exactly}
 use Rattle.plan.specs.Seating.{within, node-at-lt, home-lt, seat-lt}
 use Rattle.plan.specs.Agree.{Agree, agree-fits, agree-home, agree-node-at, agree-seat, agree-synchronises, agree-share}
 use Rattle.ranges.specs.Range.{out-of-range}
 use Rattle.machine.specs.declared.State.{State}
-use Rattle.machine.specs.declared.Reply.the-variants.{Opened, Fired}
 use Rattle.machine.specs.States.{mark, next-node}
 use Rattle.machine.specs.Calls.{earlier, b-of, edge-found, to-see, marks-left, opened-state, do-open, do-look, fired-state, do-fire, marked, open-in-shape, look-in-shape, fire-in-shape, mark-allowed, row-excess, position-bad, opened-bad, counter-bad, state-fits, both-fit, begin-run, open-call, look-call, fire-call, step-in-shape, step-call, reading-in-shape, reading-call}
+use Rattle.machine.specs.Same.{stored-same}
 use Rattle.machine.specs.CallCases.{marked-means}
 use Rattle.machine.specs.ShapeTest.{nowhere, in-range, both-fit-exactly}
 
@@ -34,15 +30,6 @@ if-same true true e f g = f refl
 if-same true false e f g = let z = f refl in cc
 if-same false true e f g = let z = g refl in cc
 if-same false false e f g = g refl
-
--- rows stored from equal functions are equal
-stored-same : (f g : ℕ → ℕ) (base : ℕ) (l : List ℕ) (n : ℕ) → ((k : ℕ) → k < n → f k ≡ g k) → stored f base l n ≡ stored g base l n
-unfolding stored
-stored-same f g base l zero h = refl
-stored-same f g base l (suc n) h =
-    let x = stored-same f g base l n (λ k m. h k (omega arith)) in
-    let y = h n (omega arith) in
-    cc
 
 module _ (a b : Plan) (s : Agree a b) (st : State) where
   -- ---- the shape of a state

@@ -1,8 +1,7 @@
 -- The calls and the token reading as 01 states them ("Running a plan", "Token reading"), every refusal in 01's order.
 -- Assumes nothing.
-use mathlib.Core.Path.{_≡_}
 use mathlib.Core.List.{List}
-use mathlib.Core.Bool.{Bool, true, false}
+use mathlib.Core.Bool.{Bool, false}
 use Prim.Native.Nat.{ℕ, suc, _+_, _*_, _%_, _^_}
 use lib.Dec.{eqb, ltb, leb}
 use lib.ListN.{set}
@@ -15,7 +14,6 @@ use Rattle.plan.specs.Value.{node-at, share}
 use Rattle.plan.specs.Tests.{home, seat, synchronises, plan-fits}
 use Rattle.ranges.specs.Range.{out-of-range}
 use Rattle.machine.specs.declared.State.{State}
-use Rattle.machine.specs.declared.Reply.{Reply}
 use Rattle.machine.specs.declared.Reply.the-variants.{Opened, Found, Wait, Fired, Refused}
 use Rattle.machine.specs.declared.Turned.{Turned}
 use Rattle.machine.specs.declared.Began.{Began}

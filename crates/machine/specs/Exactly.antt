@@ -14,11 +14,11 @@ use Rattle.machine.specs.declared.State.{State}
 use Rattle.machine.specs.declared.Reply.the-variants.{Opened, Found, Wait, Fired}
 use Rattle.machine.specs.declared.Turned.{Turned}
 use Rattle.machine.specs.States.{mark, next-node, Sized, StateInShape}
-use Rattle.machine.specs.Calls.{edge-found, to-see, marks-left, with-marks, found-state, do-look, do-fire, refused, both-fit}
+use Rattle.machine.specs.Calls.{edge-found, to-see, marks-left, with-marks, do-look, do-fire, refused, both-fit}
 use Rattle.machine.specs.Runs.{Call, turn}
 use Rattle.machine.specs.ByTest.{if-either, sum-zero}
 use Rattle.machine.specs.Replies.{same-found, same-wait, same-fired, found-not-wait, refused-not-fired, refused-not-found, refused-not-wait}
-use Rattle.machine.specs.CallCases.{open-turn, look-turn, fire-turn, look-cases, fire-cases, fire-accepted}
+use Rattle.machine.specs.CallCases.{look-turn, fire-turn, look-cases, fire-cases, fire-accepted}
 use Rattle.machine.specs.Marks.{found-mark-other}
 use Rattle.machine.specs.KeptByCalls.{Kept}
 use Rattle.machine.specs.ShapeKept.{kept-exactly, kept-fits}

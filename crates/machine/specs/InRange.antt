@@ -17,7 +17,7 @@ use Rattle.plan.specs.Formed.{Tabled, formed, fits-exactly, past}
 use Rattle.plan.specs.Seating.{within, node-at-lt}
 use Rattle.machine.specs.declared.State.{State}
 use Rattle.machine.specs.States.{StateInShape}
-use Rattle.machine.specs.Calls.{position-bad, state-fits, both-fit}
+use Rattle.machine.specs.Calls.{position-bad, both-fit}
 use Rattle.machine.specs.ShapeTest.{nowhere, in-range, both-fit-exactly}
 use Rattle.rows.specs.Lists.{NextsOk, next-in, row-left}
 use Rattle.refusals.specs.Numbers.{marked-in, open-number, look-number, fire-number}

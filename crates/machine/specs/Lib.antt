@@ -23,6 +23,7 @@ pub mod ShapeKept
 -- what the calls answer and mark, on a plan and a state in shape
 pub mod OpenExact
 pub mod Exactly
+pub mod Accepted
 -- entries past the counts are not used; each promise leaves room for one answer
 pub mod Agreeing
 pub mod Unique

@@ -35,7 +35,7 @@ use Rattle.seats.specs.Crossing.{crosses}
 use Rattle.formula.specs.Lists.{raised-in, shares-in, earlier-in, b-in}
 
 -- a row is stored by its entries only
-stored-same : (f g : ℕ → ℕ) (base : ℕ) (l : List ℕ) (n : ℕ) → ((k : ℕ) → k < n → f k ≡ g k) → stored f base l n ≡ stored g base l n
+pub stored-same : (f g : ℕ → ℕ) (base : ℕ) (l : List ℕ) (n : ℕ) → ((k : ℕ) → k < n → f k ≡ g k) → stored f base l n ≡ stored g base l n
 unfolding stored
 stored-same f g base l zero h = refl
 stored-same f g base l (suc n) h = rw (stored-same f g base l n (λ k m. h k (omega arith)), h n (omega arith))

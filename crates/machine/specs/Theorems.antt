@@ -1,10 +1,8 @@
 -- What is proved of the calls, for every plan value and every state (demand 1; 01, "Running a plan"). Each cites its proof.
 -- Assumes nothing.
-use mathlib.Core.Path.{_≡_, refl, sym, ap, _∙_}
-use mathlib.Core.Bool.{true, false}
-use mathlib.Core.Logic.{_⊎_, inl, inr, _↔_, _≢_}
-use Prim.Native.Nat.{ℕ, _+_, _≤_, _<_}
-use native.Mathlib.Omega.{arith}
+use mathlib.Core.Path.{_≡_, refl}
+use mathlib.Core.Logic.{_⊎_, inl, inr}
+use Prim.Native.Nat.{ℕ}
 use Rattle.loops.specs.Choice.{if-true, if-false, not-true}
 use Rattle.plan.specs.declared.Plan.{Plan}
 use Rattle.plan.specs.Faults.{InShape}
@@ -13,9 +11,8 @@ use Rattle.plan.specs.Formed.{fits-exactly}
 use Rattle.plan.specs.Agree.{Agree}
 use Rattle.machine.specs.declared.State.{State}
 use Rattle.machine.specs.declared.Reply.{Reply}
-use Rattle.machine.specs.declared.Reply.the-variants.{Opened, Found, Wait, Fired, Refused}
+use Rattle.machine.specs.declared.Reply.the-variants.{Refused}
 use Rattle.machine.specs.declared.Turned.{Turned}
-use Rattle.machine.specs.declared.Began.{Began}
 use Rattle.machine.specs.States.{fresh, Sized, StateInShape}
 use Rattle.machine.specs.Calls.{raised, do-open, do-look, do-fire, refused, begin-run, reading-call, opened-state, found-state, with-marks, fired-state, edge-found}
 use Rattle.machine.specs.Runs.{Call, turn}
@@ -25,6 +22,9 @@ use Rattle.machine.specs.CallCases.{by-step}
 use Rattle.machine.specs.ShapeTest as shape-test
 use Rattle.machine.specs.ShapeKept as kept
 use Rattle.machine.specs.Agreeing as agreeing
+use Rattle.machine.specs.KeptByCalls.{fresh-kept}
+use Rattle.machine.specs.Accepted as accepted
+use Rattle.machine.specs.Accepted.{Unchanged, Changed}
 
 -- the answer is a refusal
 abbrev pub IsRefused : Reply → Type 0
@@ -76,6 +76,14 @@ begins pl s = if-true (plan-fits pl) _ _ (fits-exactly pl .1 s)
 pub begin-refused : (pl : Plan) → (InShape pl → ⊥) → begin-run pl ≡ record { number = 25; state = fresh }
 unfolding begin-run
 begin-refused pl n = if-false (plan-fits pl) _ _ (not-true _ (λ t. n (fits-exactly pl .0 t)))
+
+-- a fresh state is in shape
+pub fresh-in-shape : (pl : Plan) → InShape pl → StateInShape pl fresh × Sized fresh
+fresh-in-shape pl shape = kept.kept-exactly pl shape fresh .0 (fresh-kept pl shape)
+
+-- every call on a plan and a state in shape changes nothing, or what 01 says and nothing else, in every field and at every index
+pub call-changes : (pl : Plan) → InShape pl → (st : State) → StateInShape pl st → Sized st → (c : Call) → Unchanged st (turn pl st c) ⊎ Changed pl st c (turn pl st c)
+call-changes = accepted.changes
 
 -- calls on states in shape give states in shape
 pub shape-kept : (pl : Plan) (shape : InShape pl) (st : State) → StateInShape pl st → Sized st → (c : Call)

@@ -1,4 +1,4 @@
-// A run of a plan by single small calls: begin, open, look, fire, and the token reading.
+// A run of a plan by single small calls, on a plan and a state in shape: open, look, fire, and the token reading.
 ghost use mathlib.Core.Path.{_≡_};
 ghost use Prim.Native.Nat.{_+_, _*_, _<_, _≤_};
 ghost use lib.Dec.{eqb};
@@ -7,13 +7,13 @@ ghost use Rattle.loops.specs.Sum.{sum};
 ghost use Rattle.plan.specs.Value.{base};
 ghost use Rattle.plan.specs.Faults.{InShape};
 ghost use Rattle.plan.specs.Formed.{Tabled};
-ghost use Rattle.machine.specs.States.{StateInShape, fresh};
+ghost use Rattle.machine.specs.States.{StateInShape};
 ghost use Rattle.rows.specs.Lists.{next-in};
 ghost use Rattle.machine.specs.Same.{EndsAre, crossing-of, row-of, found-in, reading-in};
 ghost use Rattle.machine.specs.InRange.{MarksOk, OpenOk, EdgeOk, FireOk};
 ghost use Rattle.machine.specs.Calls.{next-position, refused, row-excess, do-open, do-look, do-fire};
 ghost use Rattle.machine.specs.Calls.{open-in-shape, look-in-shape, fire-in-shape, step-in-shape, reading-in-shape};
-ghost use Rattle.machine.specs.Calls.{state-fits, both-fit, begin-run, open-call, look-call, fire-call, step-call, reading-call};
+ghost use Rattle.machine.specs.Calls.{state-fits};
 use plan::Plan;
 
 // The run's state: for each process a position, open (1) or closed (0), and a row of 512 marks of edges still to see; the counters; a turn number.
@@ -59,21 +59,8 @@ struct Ends {
     source: u32,
 }
 
-// Fresh: first positions, all closed, nothing marked, all counters 0, turn 0.
-fn fresh_state() -> State
-    ensures { λ r. ⌜ r ≡ fresh ⌝ }
-{
-    State {
-        positions: [0; 64],
-        opened: [0; 64],
-        marks: [0; 32768],
-        counters: [0; 64],
-        turn: 0,
-    }
-}
-
 // A refused call: the state comes back unchanged.
-fn refusal(number: u32, state: State) -> Turned
+pub fn refusal(number: u32, state: State) -> Turned
     ensures { λ r. ⌜ r ≡ refused number state ⌝ }
 {
     let after = state;
@@ -137,16 +124,6 @@ pub fn state_fits(plan: Plan, state: State) -> bool
         return false;
     }
     marks_fit(plan, state)
-}
-
-// Plan and state in shape.
-pub fn both_fit(plan: Plan, state: State) -> bool
-    ensures { λ r. ⌜ r ≡ both-fit plan state ⌝ }
-{
-    if shape::fits(plan) {
-        return state_fits(plan, state);
-    }
-    false
 }
 
 // The next node of process p.
@@ -384,68 +361,4 @@ pub fn reading_in_shape(plan: Plan, state: State, edge: u32) -> Level
         };
     }
     Level::Unread { number: 27 }
-}
-
-// Beginning a run is refused with 25 where the plan is out of shape, with an all-zero state beside it.
-pub fn begin(plan: Plan) -> Began
-    ensures { λ r. ⌜ r ≡ begin-run plan ⌝ }
-{
-    let state = fresh_state();
-    if shape::fits(plan) {
-        return Began { number: 0, state };
-    }
-    Began { number: 25, state }
-}
-
-// Open p: 25 plan or state out of shape, then as above.
-pub fn open(plan: Plan, state: State, process: u32) -> Turned
-    ensures { λ r. ⌜ r ≡ open-call plan state process ⌝ }
-{
-    if both_fit(plan, state) {
-        return open_in_shape(plan, state, process);
-    }
-    refusal(25, state)
-}
-
-// Look p, e: 25 plan or state out of shape, then as above.
-pub fn look(plan: Plan, state: State, process: u32, edge: u32) -> Turned
-    ensures { λ r. ⌜ r ≡ look-call plan state process edge ⌝ }
-{
-    if both_fit(plan, state) {
-        return look_in_shape(plan, state, process, edge);
-    }
-    refusal(25, state)
-}
-
-// Fire p: 25 plan or state out of shape, then as above.
-pub fn fire(plan: Plan, state: State, process: u32) -> Turned
-    ensures { λ r. ⌜ r ≡ fire-call plan state process ⌝ }
-{
-    if both_fit(plan, state) {
-        return fire_in_shape(plan, state, process);
-    }
-    refusal(25, state)
-}
-
-// A call by its code: a code above 2 is refused with 26, before all else; 25 plan or state out of shape.
-pub fn step(plan: Plan, state: State, code: u32, process: u32, edge: u32) -> Turned
-    ensures { λ r. ⌜ r ≡ step-call plan state code process edge ⌝ }
-{
-    if 2 < code {
-        return refusal(26, state);
-    }
-    if both_fit(plan, state) {
-        return step_in_shape(plan, state, code, process, edge);
-    }
-    refusal(25, state)
-}
-
-// The token reading: 25 plan or state out of shape; 27 unknown or not synchronising. The state is not changed.
-pub fn token_reading(plan: Plan, state: State, edge: u32) -> Level
-    ensures { λ r. ⌜ r ≡ reading-call plan state edge ⌝ }
-{
-    if both_fit(plan, state) {
-        return reading_in_shape(plan, state, edge);
-    }
-    Level::Unread { number: 25 }
 }

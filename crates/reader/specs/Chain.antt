@@ -9,7 +9,7 @@ use native.Mathlib.Decide.{ℕ-discrete, decLt}
 use lib.Dec.{ltb}
 use borrow.Author.Tests.{lt-ltb, le-ltb}
 use Rattle.loops.specs.Choice.{if, if-true, if-false, true-false, true-or-false}
-use Rattle.loops.specs.First.{first, first-le, first-below, first-here, first-none, first-unique}
+use Rattle.loops.specs.First.{first, first-below, first-here, first-none}
 
 -- "The lowest number that applies is given; within it the lowest place."
 pub record LowestFault (Fault : ℕ → ℕ → Type 0) (number place : ℕ) : Type 0 where

@@ -1,19 +1,12 @@
 -- The reader's answer says which fault is the lowest, or that there is none: the chain of all sixteen tests.
 -- Assumes nothing.
-use mathlib.Core.Path.{_≡_, refl, sym, ap, _∙_}
+use mathlib.Core.Path.{_≡_}
 use mathlib.Core.List.{List}
-use mathlib.Core.Bool.{Bool, true, false}
-use mathlib.Core.Logic.{_⊎_, inl, inr, _↔_}
-use Prim.Native.Nat.{ℕ, _≤_, _<_}
+use Prim.Native.Nat.{ℕ, _≤_}
 use native.Mathlib.Omega.{arith}
 use lib.Dec.{eqb, ltb}
 use lib.ListN.{length}
-use borrow.Author.Tests.{eqb-true, eqb-false, eq-eqb, ne-eqb}
-use Rattle.loops.specs.Choice.{if}
-use Rattle.loops.specs.First.{first}
-use Rattle.plan.specs.declared.Plan.{Plan}
 use Rattle.plan.specs.Value.{base, counter-sum}
-use Rattle.plan.specs.Faults.{Fault5}
 use Rattle.plan.specs.Tests.{zero-length, bad-order, bad-node, bad-edge}
 use Rattle.plan.specs.Passed.{test-3, test-5, test-6, test-7, test-8, counts-test}
 use Rattle.plan.specs.Formed.{Tabled, tabled}
@@ -24,12 +17,12 @@ use Rattle.conditions.specs.ProcessFaults.{test-9}
 use Rattle.conditions.specs.CounterFaults.{test-10, test-11, test-12}
 use Rattle.conditions.specs.RouteFaults.{test-13, test-14, test-15, test-16}
 use Rattle.conditions.specs.Exactly.{q-some}
-use Rattle.reader.specs.Image.{two-bytes, four-bytes, plan-of}
+use Rattle.reader.specs.Image.{plan-of}
 use Rattle.reader.specs.Faults.{faults, numbered, Fault}
 use Rattle.reader.specs.Tests.{good-format, good-offsets, from-6, from-5, verdict}
 use Rattle.reader.specs.HeaderFaults.{test-1, test-2, test-4}
 use Rattle.reader.specs.Numbers.{few-faults, below-one}
-use Rattle.reader.specs.Chain.{LowestFault, Clean, Outcome, decides-lowest, decides-if, decides-unless, decides-two, decides-final}
+use Rattle.reader.specs.Chain.{Clean, Outcome, decides-lowest, decides-if, decides-unless, decides-two, decides-final}
 
 pub refused-one : (k p k′ p′ : ℕ) → Refused k p ≡ Refused k′ p′ → (k ≡ k′) × (p ≡ p′)
 refused-one k p k′ p′ e = (cc, cc)

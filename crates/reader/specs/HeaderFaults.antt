@@ -1,16 +1,16 @@
 -- Tests 1, 2 and 4 are faults 1, 2 and 4.
 -- Assumes nothing.
-use mathlib.Core.Path.{_≡_, refl, sym, _∙_}
+use mathlib.Core.Path.{_≡_, sym, _∙_}
 use mathlib.Core.List.{List}
-use mathlib.Core.Bool.{Bool, true, false}
+use mathlib.Core.Bool.{true, false}
 use mathlib.Core.Logic.{_⊎_, inl, inr, _↔_, _≢_}
-use Prim.Native.Nat.{ℕ, _<_}
+use Prim.Native.Nat.{ℕ}
 use native.Mathlib.Decide.{ℕ-discrete}
 use lib.Dec.{eqb, ltb}
 use lib.ListN.{length}
 use borrow.Author.Tests.{ltb-true, lt-ltb, eqb-true, eq-eqb}
-use Rattle.loops.specs.Choice.{both, both-true, both-intro, true-false, not-true, not-false}
-use Rattle.reader.specs.Image.{two-bytes, four-bytes, order-start, node-start, edge-start, total, OffsetsFit}
+use Rattle.loops.specs.Choice.{both, both-true, both-intro, true-false, not-true}
+use Rattle.reader.specs.Image.{two-bytes, OffsetsFit}
 use Rattle.reader.specs.Faults.{Fault1, Fault2, Fault4}
 use Rattle.reader.specs.Tests.{good-format, good-offsets, good-later-offsets}
 

@@ -1,20 +1,19 @@
 -- The layout holds exactly where no fault 1 to 8 stands, and an accepted image has it, with its processes and C0 to C4.
 -- Assumes nothing.
-use mathlib.Core.Path.{_≡_, refl, sym, ap, _∙_, subst}
+use mathlib.Core.Path.{_≡_, refl, subst}
 use mathlib.Core.List.{List}
-use mathlib.Core.Logic.{_⊎_, inl, inr, ⊎-elim, _↔_, _≢_}
+use mathlib.Core.Logic.{_⊎_, inl, inr, ⊎-elim}
 use Prim.Native.Nat.{ℕ, zero, suc, _≤_, _<_}
 use native.Mathlib.Omega.{arith}
 use native.Mathlib.Decide.{ℕ-discrete, decLt}
 use lib.ListN.{length}
 use Rattle.loops.specs.Choice.{at, true-or-false}
-use Rattle.plan.specs.declared.Plan.{Plan}
-use Rattle.plan.specs.Value.{base, counter-sum}
-use Rattle.plan.specs.Faults.{CountsFit, Above, InShape, Fault3, Fault5, Fault6, Fault7, Fault8}
+use Rattle.plan.specs.Value.{counter-sum}
+use Rattle.plan.specs.Faults.{Above, InShape, Fault3, Fault5, Fault6, Fault7, Fault8}
 use Rattle.plan.specs.Formed.{Tabled}
-use Rattle.conditions.specs.Sound.{Upheld, Sound}
+use Rattle.conditions.specs.Sound.{Upheld}
 use Rattle.conditions.specs.Exactly.{NoFault, conditions-exactly}
-use Rattle.reader.specs.Image.{two-bytes, plan-of, OffsetsFit}
+use Rattle.reader.specs.Image.{two-bytes, plan-of}
 use Rattle.reader.specs.Faults.{Fault1, Fault2, Fault4, faults, numbered, Fault}
 use Rattle.reader.specs.Layout.{Layout}
 use Rattle.reader.specs.HeaderFaults.{test-4, offsets-exactly}

@@ -1,8 +1,7 @@
 -- The starred plans of 01 with their answers, as one table, by computation.
 -- Assumes nothing.
 use mathlib.Core.Path.{_≡_, refl}
-use mathlib.Core.List.{List, [], _∷_, map}
-use Prim.Native.Nat.{ℕ}
+use mathlib.Core.List.{[], _∷_, map}
 use Rattle.loops.specs.Choice.{if, both, either, one-if}
 use Rattle.loops.specs.First.{first, firstOf}
 use Rattle.loops.specs.Any.{any, anyOf}
@@ -11,8 +10,7 @@ use Rattle.loops.specs.Fold.{fold}
 use Rattle.loops.specs.Table.{entries, padded}
 use Rattle.plan.specs.Value.{base, share, counter-sum}
 use Rattle.plan.specs.Tests.{outside, bad-counts, zero-length, same-entry, bad-order, bad-node, not-above, not-rising, bad-edge, stands-at, place-of, ends-past, process-at, home-of, home, synchronises}
-use Rattle.routes.specs.Rows.{no-route, total, start, relaxed, round, settled, emptiest-row}
-use Rattle.conditions.specs.declared.Answer.{Answer}
+use Rattle.routes.specs.Rows.{total, start, relaxed, round, settled, emptiest-row}
 use Rattle.conditions.specs.declared.Answer.the-variants.{Accepted, Refused}
 use Rattle.rounds.specs.Lent.{is-edge, is-last, next-position, edge-tokens, has-counter}
 use Rattle.conditions.specs.Tests.{bad-position, strays, bad-counter, sends, bad-increment, bad-sum, loop-sum, closes-free, on-free-cycle, no-way-back, not-multiple, not-above-bound, asks, least-modulus, refuse-lowest, refuse-if, from-13, from-9}

@@ -4,17 +4,16 @@ use mathlib.Core.Path.{_≡_, refl, sym, ap, _∙_, subst}
 use mathlib.Core.List.{List}
 use mathlib.Core.Bool.{Bool, true, false}
 use Prim.Native.Nat.{ℕ, _≤_, _<_}
-use lib.Dec.{ltb}
 use lib.ListN.{length}
 use borrow.Author.Tests.{lt-ltb, le-ltb}
-use Rattle.loops.specs.Choice.{if, if-true, if-false}
+use Rattle.loops.specs.Choice.{if-true, if-false}
 use Rattle.plan.specs.declared.Plan.{Plan}
 use Rattle.plan.specs.Value.{counter-sum}
 use Rattle.plan.specs.Faults.{CountsFit}
 use Rattle.plan.specs.Passed.{counts-fit}
 use Rattle.plan.specs.Tests.{bad-counts}
 use Rattle.conditions.specs.declared.Answer.{Answer}
-use Rattle.conditions.specs.declared.Answer.the-variants.{Accepted, Refused}
+use Rattle.conditions.specs.declared.Answer.the-variants.{Refused}
 use Rattle.conditions.specs.Tests.{refuse-if}
 use Rattle.reader.specs.declared.Reading.{Reading}
 use Rattle.reader.specs.Image.{two-bytes, four-bytes, plan-of}

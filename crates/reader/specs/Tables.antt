@@ -1,12 +1,10 @@
 -- What stands in the plan value of an image: exactly the image's numbers, with 0 past the counts.
 -- Assumes nothing.
-use mathlib.Core.Path.{_≡_, refl}
+use mathlib.Core.Path.{_≡_}
 use mathlib.Core.List.{List}
 use Prim.Native.Nat.{ℕ, _+_, _*_, _≤_, _<_}
-use lib.ListN.{length}
 use Rattle.loops.specs.Choice.{at}
-use Rattle.loops.specs.Table.{padded, padded-at, padded-past, padded-length}
-use Rattle.plan.specs.declared.Plan.{Plan}
+use Rattle.loops.specs.Table.{padded, padded-at, padded-past}
 use Rattle.reader.specs.Image.{two-bytes, entry, order-start, node-start, edge-start, counter-table, increment-table, plan-of}
 
 -- a table holds n numbers of the image, one every `step` bytes from `start` on, and 0 past them

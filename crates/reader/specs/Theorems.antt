@@ -3,14 +3,11 @@
 use mathlib.Core.Path.{_≡_, refl, sym, ap, _∙_, subst}
 use mathlib.Core.List.{List}
 use mathlib.Core.Logic.{_⊎_, inl, inr, _↔_}
-use Prim.Native.Nat.{ℕ, _≤_, _<_}
+use Prim.Native.Nat.{ℕ, _≤_}
 use native.Mathlib.Omega.{arith}
 use native.Mathlib.Decide.{decLt}
-use Rattle.plan.specs.declared.Plan.{Plan}
 use Rattle.plan.specs.Value.{counter-sum, Synchronising}
-use Rattle.plan.specs.Faults.{InShape}
 use Rattle.plan.specs.Unique.{one-answer}
-use Rattle.conditions.specs.declared.Answer.{Answer}
 use Rattle.conditions.specs.declared.Answer.the-variants.{Accepted, Refused}
 use Rattle.conditions.specs.Conditions.{LeastModulus}
 use Rattle.conditions.specs.Sound.{Upheld, Sound}

@@ -58,7 +58,7 @@ fn put_call(
     let code = number_at(record, at + 1);
     let process = number_at(record, at + 5);
     let edge = number_at(record, at + 9);
-    let turned = machine::step(plan, state, code, process, edge);
+    let turned = calls::step(plan, state, code, process, edge);
     let reply = turned.reply;
     let after = turned.state;
     Answered {
@@ -78,7 +78,7 @@ fn put_reading(
 ) -> Answered
     requires { ⌜ at < 65536 ⌝ }
 {
-    let level = machine::token_reading(plan, state, number_at(record, at + 9));
+    let level = calls::token_reading(plan, state, number_at(record, at + 9));
     let after = state;
     Answered {
         state: after,
@@ -88,7 +88,7 @@ fn put_reading(
 
 // A beginning.
 fn put_beginning(plan: Plan, out: &mut [u8; 65536], place: usize) -> Answered {
-    let began = machine::begin(plan);
+    let began = calls::begin(plan);
     let after = began.state;
     Answered {
         state: after,

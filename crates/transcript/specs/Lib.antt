@@ -1,7 +1,3 @@
-pub mod Decimal
-pub mod Writing
-pub mod PutDecimal
-pub mod Words
 pub mod Text
 pub mod Running
 pub mod Printing

@@ -1,13 +1,13 @@
 -- The text by the reader's answer: an accepted plan's line and its calls, or a refusal. Assumes nothing.
-use mathlib.Core.Path.{_≡_, refl, sym, ap, _∙_}
-use mathlib.Core.List.{List, [], _∷_, _++_}
+use mathlib.Core.Path.{_≡_, sym, ap, _∙_}
+use mathlib.Core.List.{List, [], _++_}
 use Prim.Native.Nat.{ℕ, _-_, _≤_, _<_}
 use native.Mathlib.Omega.{arith}
 use borrow.Author.Tests.{lt-ltb, le-ltb}
 use lib.Dec.{ltb}
 use lib.ListN.{length, take, drop, length-drop}
 use lib.Seq.{take-all}
-use Rattle.loops.specs.Choice.{if, if-true, if-false}
+use Rattle.loops.specs.Choice.{if-true, if-false}
 use Rattle.plan.specs.declared.Plan.{Plan}
 use Rattle.plan.specs.Faults.{InShape}
 use Rattle.conditions.specs.declared.Answer.{Answer}
@@ -19,9 +19,10 @@ use Rattle.reader.specs.Theorems.{IsAccepted, accepted-sound, all-of-the-plan, 
 use Rattle.machine.specs.States.{fresh}
 use Rattle.transcript.specs.declared.Printed.{Printed}
 use Rattle.transcript.specs.declared.Printed.the-variants.{Whole, TooShort}
-use Rattle.transcript.specs.Words.{too-long-line}
-use Rattle.transcript.specs.Text.{plan-line, refusal-text, calls-text, image-length, text-by, text-read, run-text, text-of, printed, out-after}
-use Rattle.transcript.specs.Writing.{Put, put-then, put-same, put-nowhere, put-front}
+use Rattle.lines.specs.Words.{too-long-line}
+use Rattle.transcript.specs.Text.{calls-text, image-length, text-by, text-read, run-text, text-of, printed, out-after}
+use Rattle.lines.specs.Lines.{plan-line, refusal-text}
+use Rattle.lines.specs.Writing.{Put, put-then, put-same, put-nowhere, put-front}
 
 -- ---- the image's length, by the total field
 module _ (input : List ℕ) where

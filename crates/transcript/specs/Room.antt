@@ -1,6 +1,6 @@
 -- A buffer of 409,642 bytes has room for every text: `transcript` then answers the text's length, and nothing of it is lost.
 -- Assumes nothing.
-use mathlib.Core.Path.{_≡_, refl, sym, ap, _∙_}
+use mathlib.Core.Path.{_≡_, _∙_}
 use mathlib.Core.List.{List, _++_}
 use mathlib.Core.Bool.{false}
 use Prim.Native.Nat.{ℕ, _≤_}

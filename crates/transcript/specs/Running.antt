@@ -1,9 +1,8 @@
 -- The loop over the calls: what is still to be put, from each call on. It begins from a plan in shape; each call keeps the state's shape,
 -- so that the machine's step for what is in shape is its step. Assumes nothing.
-use mathlib.Core.Path.{_≡_, refl, sym, ap, _∙_, subst}
+use mathlib.Core.Path.{_≡_, refl, sym, ap, _∙_}
 use mathlib.Core.List.{List, [], _∷_, _++_, append-assoc}
-use mathlib.Core.Bool.{Bool, true, false}
-use Prim.Native.Nat.{ℕ, zero, suc, _+_, _-_, _*_, _≤_, _<_}
+use Prim.Native.Nat.{ℕ, suc, _+_, _-_, _*_, _≤_, _<_}
 use native.Mathlib.Omega.{arith}
 use native.Mathlib.Decide.{decLt}
 use native.Mathlib.Numerals.{add-one}
@@ -25,9 +24,10 @@ use Rattle.machine.specs.Theorems.{begins}
 use Rattle.machine.specs.ShapeTest.{both-fit-exactly}
 use Rattle.machine.specs.KeptByCalls.{fresh-kept}
 use Rattle.machine.specs.ShapeKept.{kept-exactly, shape-kept-in-shape}
-use Rattle.transcript.specs.Words.{cut-line}
-use Rattle.transcript.specs.Text.{line, lines, calls-in, left-over, calls-text}
-use Rattle.transcript.specs.Writing.{Put, put-none, put-then, put-same}
+use Rattle.lines.specs.Words.{cut-line}
+use Rattle.transcript.specs.Text.{lines, calls-in, left-over, calls-text}
+use Rattle.lines.specs.Lines.{line}
+use Rattle.lines.specs.Writing.{Put, put-none, put-then, put-same}
 
 -- the bytes at a place as a call: code, process, and two bytes of edge
 unfoldable pub call-at : List ℕ → ℕ → Call

@@ -2,7 +2,7 @@
 -- Assumes nothing.
 use mathlib.Core.List.{List, [], _∷_, _++_}
 use Prim.Native.Nat.{ℕ, suc, _+_, _*_}
-use lib.Dec.{ltb, leb}
+use lib.Dec.{ltb}
 use lib.ListN.{length, take, drop}
 use Rattle.loops.specs.Choice.{if}
 use Rattle.plan.specs.declared.Plan.{Plan}
@@ -13,45 +13,14 @@ use Rattle.reader.specs.Image.{four-bytes}
 use Rattle.reader.specs.Tests.{reading-of}
 use Rattle.machine.specs.declared.State.{State}
 use Rattle.machine.specs.declared.Reply.{Reply}
-use Rattle.machine.specs.declared.Reply.the-variants as replied
 use Rattle.machine.specs.States.{fresh}
 use Rattle.machine.specs.Runs.{Call, replies}
 use Rattle.transcript.specs.declared.Printed.{Printed}
 use Rattle.transcript.specs.declared.Printed.the-variants.{Whole, TooShort}
-use Rattle.transcript.specs.Decimal.{decimal}
-use Rattle.transcript.specs.Words.{blank, newline, plan-word, refused-word, opened-word, found-word, wait-word, fired-word, turned-down-word, cut-line, too-long-line}
+use Rattle.lines.specs.Words.{cut-line, too-long-line}
+use Rattle.lines.specs.Lines.{plan-line, refused-line, line}
 
--- a number and the byte behind it
-unfoldable pub number-then : ℕ → ℕ → List ℕ
-number-then n byte = decimal n ++ (byte ∷ [])
-
--- ---- the first line
--- "First line: `plan` Q N least"
-unfoldable pub plan-line : ℕ → ℕ → ℕ → List ℕ
-plan-line q modulus least = plan-word ++ number-then q blank ++ number-then modulus blank ++ number-then least newline
-
--- "or `refused` number place"
-unfoldable pub refused-line : ℕ → ℕ → List ℕ
-refused-line number place = refused-word ++ number-then number blank ++ number-then place newline
-
--- the text of a refusal; nothing where the plan is accepted
-unfoldable pub refusal-text : Answer → List ℕ
-refusal-text (answers.Accepted q modulus least) = []
-refusal-text (answers.Refused number place) = refused-line number place
-
--- ---- a line a call
--- "then `opened`, `found` or `wait` with edges left, or `fired` with the node, or `refused` with the number"
-unfoldable pub said : Reply → List ℕ
-said (replied.Opened edges) = opened-word ++ number-then edges newline
-said (replied.Found left) = found-word ++ number-then left newline
-said (replied.Wait left) = wait-word ++ number-then left newline
-said (replied.Fired node) = fired-word ++ number-then node newline
-said (replied.Refused number) = turned-down-word ++ number-then number newline
-
--- "Each call prints its index from 0"
-unfoldable pub line : ℕ → Reply → List ℕ
-line index reply = decimal index ++ said reply
-
+-- the lines of replies, the first with this index
 unfoldable pub lines : ℕ → List Reply → List ℕ
 lines index [] = []
 lines index (reply ∷ others) = line index reply ++ lines (suc index) others

@@ -6,14 +6,11 @@ ghost use Rattle.plan.specs.Faults.{InShape};
 ghost use Rattle.reader.specs.Image.{two-bytes, four-bytes};
 ghost use Rattle.machine.specs.States.{fresh};
 ghost use Rattle.transcript.specs.Text.{calls-text, image-length, run-text, text-of};
-ghost use Rattle.transcript.specs.Writing.{Put};
+ghost use Rattle.lines.specs.Writing.{Put};
 ghost use Rattle.transcript.specs.Running.{cut-if};
 ghost use Rattle.transcript.specs.Printing.{Answers};
 use conditions::Answer;
 use plan::Plan;
-
-mod lines;
-mod text;
 
 // What `transcript` answers: the length of the text that it wrote, or the length that the buffer is too short for.
 pub enum Printed {
@@ -70,7 +67,7 @@ fn put_left_over(out: &mut [u8], place: usize, left: usize) -> usize
     if left == 0 {
         return place;
     }
-    text::put_word(out, place, b"cut\n")
+    lines::text::put_word(out, place, b"cut\n")
 }
 
 // The calls of four bytes: code, process, edge (two bytes). The run begins from an accepted plan; each call keeps the shape, so none is tested.
@@ -78,7 +75,7 @@ fn put_calls(plan: Plan, calls: &[u8], out: &mut [u8], place: usize) -> usize
     requires { ⌜ InShape plan × (length (now calls) ≤ 65536) × (place ≤ 38) ⌝ }
     ensures { λ r. ⌜ Put (now (out .entry)) place (calls-text plan fresh 0 (now (calls .entry))) (now (out .exit)) r × (r ≤ 409642) ⌝ }
 {
-    let began = machine::begin(plan);
+    let began = calls::begin(plan);
     let mut state = began.state;
     let mut next = place;
     let mut index: u32 = 0;
@@ -121,7 +118,7 @@ fn put_text(input: &[u8], out: &mut [u8]) -> usize
     ensures { λ r. ⌜ Put (now (out .entry)) 0 (text-of (now (input .entry))) (now (out .exit)) r × (r ≤ 409642) ⌝ }
 {
     if 65536 < input.len() {
-        return text::put_word(out, 0, b"too long\n");
+        return lines::text::put_word(out, 0, b"too long\n");
     }
     put_run(input, out)
 }

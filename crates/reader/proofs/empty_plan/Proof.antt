@@ -1,5 +1,4 @@
 -- `reader::empty_plan` meets its contract. Assumes nothing.
-use borrow.Author.Needs.{needs}
 use Rattle.reader.specs.Tests.{no-plan}
 use mathlib.Core.Path.{refl}
 use Rattle.reader.proofs.empty_plan.Statement.{statement}

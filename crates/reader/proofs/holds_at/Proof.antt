@@ -1,7 +1,7 @@
 -- `reader::holds_at` meets its contract. Assumes nothing.
 use borrow.Author.Needs.{needs}
 use Rattle.loops.specs.Choice.{eqb-left}
-use mathlib.Core.Path.{ap, _∙_}
+use mathlib.Core.Path.{_∙_}
 use Rattle.reader.proofs.holds_at.Statement.{statement}
 use Rattle.reader.proofs.holds_at.Tie as tie
 

@@ -1,0 +1,76 @@
+// The lines of the text: the first line, and a line for each call.
+ghost use mathlib.Core.Path.{_≡_};
+ghost use mathlib.Core.List.{_++_};
+ghost use Prim.Native.Nat.{_+_, _<_, _≤_};
+ghost use lib.ListN.{length};
+ghost use Rattle.lines.specs.Words.{newline};
+ghost use Rattle.lines.specs.Lines.{number-then, plan-line, refused-line, refusal-text, said, line};
+ghost use Rattle.lines.specs.Writing.{Put};
+use conditions::Answer;
+use machine::Reply;
+use text::put_decimal;
+use text::put_number;
+use text::put_word;
+
+pub mod text;
+
+// First line: `plan` Q N least.
+pub fn put_plan_line(out: &mut [u8], q: u32, modulus: u32, least: u32) -> usize
+    ensures { λ r. ⌜ Put (now (out .entry)) 0 (plan-line q modulus least) (now (out .exit)) r × (r ≤ 38) ⌝ }
+{
+    let behind_word = put_word(out, 0, b"plan ");
+    let behind_q = put_number(out, behind_word, q, b' ');
+    let behind_modulus = put_number(out, behind_q, modulus, b' ');
+    put_number(out, behind_modulus, least, b'\n')
+}
+
+// First line: `refused` number place.
+fn put_refused_line(out: &mut [u8], number: u32, place: u32) -> usize
+    ensures { λ r. ⌜ Put (now (out .entry)) 0 (refused-line number place) (now (out .exit)) r × (r ≤ 38) ⌝ }
+{
+    let behind_word = put_word(out, 0, b"refused ");
+    let behind_number = put_number(out, behind_word, number, b' ');
+    put_number(out, behind_number, place, b'\n')
+}
+
+// The whole text of a refusal; an accepted plan is no refusal and prints nothing here.
+pub fn put_refusal(out: &mut [u8], answer: Answer) -> usize
+    ensures { λ r. ⌜ Put (now (out .entry)) 0 (refusal-text answer) (now (out .exit)) r × (r ≤ 38) ⌝ }
+{
+    let Answer::Refused { number, place } = answer else {
+        return 0;
+    };
+    put_refused_line(out, number, place)
+}
+
+// A word and a number, and the line's end.
+fn put_said(out: &mut [u8], place: usize, word: &[u8], n: u32) -> usize
+    requires { ⌜ (place < 1000000) × (length (now word) ≤ 9) ⌝ }
+    ensures { λ r. ⌜ Put (now (out .entry)) place (now (word .entry) ++ number-then n newline) (now (out .exit)) r × (r ≤ place + 20) ⌝ }
+{
+    let next = put_word(out, place, word);
+    put_number(out, next, n, b'\n')
+}
+
+// `opened`, `found` or `wait` with edges left, or `fired` with the node, or `refused` with the number.
+fn put_reply(out: &mut [u8], place: usize, reply: Reply) -> usize
+    requires { ⌜ place < 1000000 ⌝ }
+    ensures { λ r. ⌜ Put (now (out .entry)) place (said reply) (now (out .exit)) r × (r ≤ place + 20) ⌝ }
+{
+    match reply {
+        Reply::Opened { edges } => put_said(out, place, b" opened ", edges),
+        Reply::Found { left } => put_said(out, place, b" found ", left),
+        Reply::Wait { left } => put_said(out, place, b" wait ", left),
+        Reply::Fired { node } => put_said(out, place, b" fired ", node),
+        Reply::Refused { number } => put_said(out, place, b" refused ", number),
+    }
+}
+
+// The line of a call: its index, and what was answered.
+pub fn put_line(out: &mut [u8], place: usize, index: u32, reply: Reply) -> usize
+    requires { ⌜ (place < 900000) × (index < 100000) ⌝ }
+    ensures { λ r. ⌜ Put (now (out .entry)) place (line index reply) (now (out .exit)) r × (r ≤ place + 25) ⌝ }
+{
+    let next = put_decimal(out, place, index);
+    put_reply(out, next, reply)
+}
