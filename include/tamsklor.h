@@ -214,7 +214,8 @@ struct run_stepped run_stepped(struct plan_value plan, struct run_state state,
 /* A token reading's answer. */
 struct run_token_answer {
     uint32_t number; /* RUN_ACCEPTED, 25 or 27 */
-    uint32_t count;  /* tokens on the edge; 0 if refused */
+    uint32_t count;  /* 01's reading, modulo N; with Q above 1 it may be more
+                        than the tokens on the edge; 0 if refused */
 };
 
 /* The token reading of a synchronising edge, for the service screen. */

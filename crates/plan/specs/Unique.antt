@@ -1,4 +1,4 @@
--- Each promise of this crate is `r ≡ ..`, a definition of the arguments: it leaves room for one answer.
+-- A promise `r ≡ ..`, a definition of the arguments, leaves room for one answer.
 -- Assumes nothing.
 use mathlib.Core.Path.{_≡_, sym, _∙_}
 
