@@ -13,7 +13,7 @@ use Rattle.plan.specs.Value.{graph-of, InProcess, share}
 use Rattle.conditions.specs.declared.Answer.the-variants.{Refused}
 use Rattle.conditions.specs.Sound.{Upheld}
 use Rattle.reader.specs.declared.Reading.{Reading}
-use Rattle.reader.specs.Image.{plan-of}
+use Rattle.image.specs.Image.{plan-of}
 use Rattle.reader.specs.Faults.{Fault}
 use Rattle.reader.specs.Layout.{Layout}
 use Rattle.reader.specs.Chain.{LowestFault}

@@ -17,9 +17,10 @@ use Rattle.conditions.specs.ProcessFaults.{test-9}
 use Rattle.conditions.specs.CounterFaults.{test-10, test-11, test-12}
 use Rattle.conditions.specs.RouteFaults.{test-13, test-14, test-15, test-16}
 use Rattle.conditions.specs.Exactly.{q-some}
-use Rattle.reader.specs.Image.{plan-of}
+use Rattle.image.specs.Image.{plan-of}
 use Rattle.reader.specs.Faults.{faults, numbered, Fault}
-use Rattle.reader.specs.Tests.{good-format, good-offsets, from-6, from-5, verdict}
+use Rattle.reader.specs.Tests.{from-6, from-5, verdict}
+use Rattle.image.specs.Header.{good-format, good-offsets}
 use Rattle.reader.specs.HeaderFaults.{test-1, test-2, test-4}
 use Rattle.reader.specs.Numbers.{few-faults, below-one}
 use Rattle.reader.specs.Chain.{Clean, Outcome, decides-lowest, decides-if, decides-unless, decides-two, decides-final}

@@ -7,7 +7,7 @@ use Prim.Native.Nat.{ℕ, zero, suc, _<_}
 use lib.ListN.{length}
 use Rattle.plan.specs.Faults.{Fault3, Fault5, Fault6, Fault7, Fault8}
 use Rattle.conditions.specs.Faults.{Fault9, Fault10, Fault11, Fault12, Fault13, Fault14, Fault15, Fault16}
-use Rattle.reader.specs.Image.{two-bytes, plan-of, OffsetsFit}
+use Rattle.image.specs.Image.{two-bytes, plan-of, OffsetsFit}
 
 module _ (s : List ℕ) where
   -- 1: "fewer than 36 bytes", place 0

@@ -10,9 +10,9 @@ use lib.Dec.{eqb, ltb}
 use lib.ListN.{length}
 use borrow.Author.Tests.{ltb-true, lt-ltb, eqb-true, eq-eqb}
 use Rattle.loops.specs.Choice.{both, both-true, both-intro, true-false, not-true}
-use Rattle.reader.specs.Image.{two-bytes, OffsetsFit}
+use Rattle.image.specs.Image.{two-bytes, OffsetsFit}
 use Rattle.reader.specs.Faults.{Fault1, Fault2, Fault4}
-use Rattle.reader.specs.Tests.{good-format, good-offsets, good-later-offsets}
+use Rattle.image.specs.Header.{good-format, good-offsets, good-later-offsets}
 
 module _ (s : List ℕ) where
   pub test-1 : (p : ℕ) → ((p ≡ 0) × (ltb (length s) 36 ≡ true)) ↔ Fault1 s p

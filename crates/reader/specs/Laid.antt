@@ -13,11 +13,11 @@ use Rattle.plan.specs.Faults.{Above, InShape, Fault3, Fault5, Fault6, Fault7, F
 use Rattle.plan.specs.Formed.{Tabled}
 use Rattle.conditions.specs.Sound.{Upheld}
 use Rattle.conditions.specs.Exactly.{NoFault, conditions-exactly}
-use Rattle.reader.specs.Image.{two-bytes, plan-of}
+use Rattle.image.specs.Image.{two-bytes, plan-of}
 use Rattle.reader.specs.Faults.{Fault1, Fault2, Fault4, faults, numbered, Fault}
 use Rattle.reader.specs.Layout.{Layout}
 use Rattle.reader.specs.HeaderFaults.{test-4, offsets-exactly}
-use Rattle.reader.specs.Tests.{good-offsets}
+use Rattle.image.specs.Header.{good-offsets}
 use Rattle.reader.specs.Decided.{clean-tabled}
 use Rattle.reader.specs.Chain.{Clean}
 use Rattle.reader.specs.Numbers.{NoneOf, none-numbered}

@@ -1,4 +1,3 @@
-pub mod Image
 pub mod Faults
 pub mod Layout
 pub mod Tests
@@ -11,5 +10,4 @@ pub mod Tables
 pub mod Theorems
 pub mod Plans
 pub mod Starred
-pub mod Room
 pub mod Steps

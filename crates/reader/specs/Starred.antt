@@ -14,9 +14,10 @@ use Rattle.routes.specs.Rows.{total, start, relaxed, round, settled, emptiest-r
 use Rattle.conditions.specs.declared.Answer.the-variants.{Accepted, Refused}
 use Rattle.rounds.specs.Lent.{is-edge, is-last, next-position, edge-tokens, has-counter}
 use Rattle.conditions.specs.Tests.{bad-position, strays, bad-counter, sends, bad-increment, bad-sum, loop-sum, closes-free, on-free-cycle, no-way-back, not-multiple, not-above-bound, asks, least-modulus, refuse-lowest, refuse-if, from-13, from-9}
-use Rattle.reader.specs.Image.{two-bytes, four-bytes, entry, order-start, node-start, edge-start, counter-table, increment-table, plan-of}
-use Rattle.reader.specs.Image as image
-use Rattle.reader.specs.Tests.{good-format, good-offsets, good-later-offsets, from-6, from-5, verdict}
+use Rattle.image.specs.Image.{two-bytes, four-bytes, entry, order-start, node-start, edge-start, counter-table, increment-table, plan-of}
+use Rattle.image.specs.Image as image
+use Rattle.reader.specs.Tests.{from-6, from-5, verdict}
+use Rattle.image.specs.Header.{good-format, good-offsets, good-later-offsets}
 use Rattle.reader.specs.Plans.{as-two, as-four, all-as-two, image-of, like-P, edges-of-P, P, P-with-N-3, P-without-3-0, P-with-1-2-repeated, one-node, P-by-twos, P-with-0-0, ring, P-all-ones}
 
 pub starred-plans :

@@ -16,11 +16,12 @@ use Rattle.conditions.specs.declared.Answer.{Answer}
 use Rattle.conditions.specs.declared.Answer.the-variants.{Refused}
 use Rattle.conditions.specs.Tests.{refuse-if}
 use Rattle.reader.specs.declared.Reading.{Reading}
-use Rattle.reader.specs.Image.{two-bytes, four-bytes, plan-of}
+use Rattle.image.specs.Image.{two-bytes, four-bytes, plan-of}
 use Rattle.reader.specs.HeaderFaults.{offsets-exactly}
 use Rattle.reader.specs.Laid.{q-is}
-use Rattle.reader.specs.Room.{Laid}
-use Rattle.reader.specs.Tests.{good-format, good-offsets, from-5, verdict, no-plan, plan-beside, reading-of}
+use Rattle.image.specs.Room.{Laid}
+use Rattle.reader.specs.Tests.{from-5, verdict, no-plan, plan-beside, reading-of}
+use Rattle.image.specs.Header.{good-format, good-offsets}
 
 -- an answer with the plan beside it
 unfoldable pub with-plan : Answer → Plan → Reading

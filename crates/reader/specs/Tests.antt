@@ -1,11 +1,10 @@
 -- The reader's tests in 01's order, as the program runs them, and what it answers.
 -- Assumes nothing.
 use mathlib.Core.List.{List}
-use mathlib.Core.Bool.{Bool}
 use Prim.Native.Nat.{ℕ}
 use lib.Dec.{eqb, ltb}
 use lib.ListN.{length, replicate}
-use Rattle.loops.specs.Choice.{if, both}
+use Rattle.loops.specs.Choice.{if}
 use Rattle.plan.specs.declared.Plan.{Plan}
 use Rattle.plan.specs.Value.{base}
 use Rattle.plan.specs.Tests.{bad-counts, zero-length, bad-order, bad-node, bad-edge}
@@ -13,20 +12,8 @@ use Rattle.conditions.specs.declared.Answer.{Answer}
 use Rattle.conditions.specs.declared.Answer.the-variants.{Accepted, Refused}
 use Rattle.conditions.specs.Tests.{refuse-if, refuse-lowest, from-9}
 use Rattle.reader.specs.declared.Reading.{Reading}
-use Rattle.reader.specs.Image.{two-bytes, four-bytes, order-start, node-start, edge-start, total, plan-of}
-
--- number 2
-unfoldable pub good-format : List ℕ → Bool
-good-format s = both (eqb (two-bytes s 0) 1) (eqb (two-bytes s 10) 0)
-
--- number 4, its second half: the offsets of the node and edge tables, the total and the length
-unfoldable pub good-later-offsets : List ℕ → Bool
-good-later-offsets s =
-    both (eqb (four-bytes s 24) (node-start s)) (both (eqb (four-bytes s 28) (edge-start s)) (both (eqb (four-bytes s 32) (total s)) (eqb (length s) (total s))))
-
--- number 4
-unfoldable pub good-offsets : List ℕ → Bool
-good-offsets s = both (eqb (four-bytes s 16) 36) (both (eqb (four-bytes s 20) (order-start s)) (good-later-offsets s))
+use Rattle.image.specs.Image.{two-bytes, four-bytes, plan-of}
+use Rattle.image.specs.Header.{good-format, good-offsets}
 
 -- tests 6 to 16 of a plan value
 unfoldable pub from-6 : Plan → Answer

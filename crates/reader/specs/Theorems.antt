@@ -16,7 +16,7 @@ use Rattle.conditions.specs.Exactly.{q-some, conditions-exactly}
 use Rattle.conditions.specs.Least as conditions
 use Rattle.conditions.specs.Least.{least-alone}
 use Rattle.reader.specs.declared.Reading.{Reading}
-use Rattle.reader.specs.Image.{plan-of}
+use Rattle.image.specs.Image.{plan-of}
 use Rattle.reader.specs.Faults.{Fault}
 use Rattle.reader.specs.Layout.{Layout}
 use Rattle.reader.specs.Tests.{verdict, no-plan, plan-beside, reading-of}

@@ -1,16 +1,13 @@
 // A plan image read: accepted with Q, N and the least modulus, or refused with a number and a place.
 ghost use mathlib.Core.Path.{_≡_};
 ghost use mathlib.Core.Bool.{true};
-ghost use Prim.Native.Nat.{ℕ, _+_, _*_, _<_, _≤_};
-ghost use lib.Dec.{eqb};
-ghost use Rattle.plan.specs.Value.{counter-sum};
-ghost use Rattle.plan.specs.Faults.{CountsFit, Fault3, Fault5};
-ghost use Rattle.plan.specs.Passed.{Passes};
+ghost use Prim.Native.Nat.{_≤_};
 ghost use lib.ListN.{length};
-ghost use Rattle.loops.specs.Table.{padded};
-ghost use Rattle.reader.specs.Image.{two-bytes, four-bytes, entry, order-start, node-start, edge-start, total, plan-of};
-ghost use Rattle.reader.specs.Room.{Room, Laid};
-ghost use Rattle.reader.specs.Tests.{good-format, good-offsets, good-later-offsets, from-5, from-6, no-plan, reading-of};
+ghost use Rattle.plan.specs.Value.{counter-sum};
+ghost use Rattle.plan.specs.Faults.{CountsFit, Fault5};
+ghost use Rattle.plan.specs.Passed.{Passes};
+ghost use Rattle.image.specs.Header.{good-format};
+ghost use Rattle.reader.specs.Tests.{from-5, from-6, no-plan, reading-of};
 ghost use Rattle.reader.specs.Steps.{with-plan, refusal-of};
 use conditions::Answer;
 use plan::Plan;
@@ -19,270 +16,6 @@ use plan::Plan;
 pub struct Reading {
     pub answer: Answer,
     pub plan: Plan,
-}
-
-// A byte, wide enough to be joined to another.
-fn wide_byte(x: u8) -> u16
-    ensures { λ r. ⌜ (r ≡ x) × (r < 256) ⌝ }
-{
-    x as u16
-}
-
-fn wide_pair(x: u16) -> u32
-    ensures { λ r. ⌜ (r ≡ x) × (r < 65536) ⌝ }
-{
-    x as u32
-}
-
-fn wide(x: u16) -> usize
-    ensures { λ r. ⌜ (r ≡ x) × (r < 65536) ⌝ }
-{
-    x as usize
-}
-
-fn wide_quad(x: u32) -> usize
-    ensures { λ r. ⌜ r ≡ x ⌝ }
-{
-    x as usize
-}
-
-// The number of two bytes at a place, the lower byte first.
-fn pair_at(image: &[u8], place: usize) -> u16
-    requires { ⌜ place + 1 < length (now image) ⌝ }
-    ensures { λ r. ⌜ r ≡ two-bytes (now (image .entry)) place ⌝ }
-{
-    wide_byte(image[place]) + 256 * wide_byte(image[place + 1])
-}
-
-// The number of four bytes at a place.
-fn quad_at(image: &[u8], place: usize) -> u32
-    requires { ⌜ place + 3 < length (now image) ⌝ }
-    ensures { λ r. ⌜ r ≡ four-bytes (now (image .entry)) place ⌝ }
-{
-    wide_pair(pair_at(image, place)) + 65536 * wide_pair(pair_at(image, place + 2))
-}
-
-// Number 2: the format is 1, and bytes 10 and 11 are zero.
-fn format_fits(image: &[u8]) -> bool
-    requires { ⌜ 36 ≤ length (now image) ⌝ }
-    ensures { λ r. ⌜ r ≡ good-format (now (image .entry)) ⌝ }
-{
-    let zero = pair_at(image, 10);
-    if pair_at(image, 0) == 1 {
-        zero == 0
-    } else {
-        false
-    }
-}
-
-// A table of n numbers of two bytes, one every `step` bytes from `start` on, and 0 past them.
-fn table_of_64(image: &[u8], start: usize, step: usize, n: usize) -> [u16; 64]
-    requires { ⌜ (n ≤ 64) × Room (now image) start step n ⌝ }
-    ensures { λ r. ⌜ r ≡ padded (entry (now (image .entry)) start step) 64 n ⌝ }
-{
-    let mut table = [0u16; 64];
-    let mut k: usize = 0;
-    while k < n {
-        table[k] = pair_at(image, start + step * k);
-        k += 1;
-    }
-    table
-}
-
-fn table_of_512(image: &[u8], start: usize, step: usize, n: usize) -> [u16; 512]
-    requires { ⌜ (n ≤ 512) × Room (now image) start step n ⌝ }
-    ensures { λ r. ⌜ r ≡ padded (entry (now (image .entry)) start step) 512 n ⌝ }
-{
-    let mut table = [0u16; 512];
-    let mut k: usize = 0;
-    while k < n {
-        table[k] = pair_at(image, start + step * k);
-        k += 1;
-    }
-    table
-}
-
-// A count of the header, wide enough to index with.
-fn count_at(image: &[u8], place: usize) -> usize
-    requires { ⌜ place + 1 < length (now image) ⌝ }
-    ensures { λ r. ⌜ (r ≡ two-bytes (now (image .entry)) place) × (r < 65536) ⌝ }
-{
-    wide(pair_at(image, place))
-}
-
-// Where the firing order begins: after the process lengths.
-fn order_start_of(image: &[u8]) -> usize
-    requires { ⌜ 36 ≤ length (now image) ⌝ }
-    ensures { λ r. ⌜ (r ≡ order-start (now (image .entry))) × (r < 200000) ⌝ }
-{
-    36 + 2 * count_at(image, 4)
-}
-
-// Where the node table begins: after the firing order.
-fn node_start_of(image: &[u8]) -> usize
-    requires { ⌜ 36 ≤ length (now image) ⌝ }
-    ensures { λ r. ⌜ (r ≡ node-start (now (image .entry))) × (r < 400000) ⌝ }
-{
-    order_start_of(image) + 2 * count_at(image, 2)
-}
-
-// Where the edge table begins: after the node table.
-fn edge_start_of(image: &[u8]) -> usize
-    requires { ⌜ 36 ≤ length (now image) ⌝ }
-    ensures { λ r. ⌜ (r ≡ edge-start (now (image .entry))) × (r < 800000) ⌝ }
-{
-    node_start_of(image) + 4 * count_at(image, 2)
-}
-
-// Where the image ends: after the edge table.
-fn total_of(image: &[u8]) -> usize
-    requires { ⌜ 36 ≤ length (now image) ⌝ }
-    ensures { λ r. ⌜ (r ≡ total (now (image .entry))) × (r < 1200000) ⌝ }
-{
-    edge_start_of(image) + 6 * count_at(image, 6)
-}
-
-// The number of four bytes at a place is the one wanted.
-fn holds_at(image: &[u8], place: usize, wanted: usize) -> bool
-    requires { ⌜ place + 3 < length (now image) ⌝ }
-    ensures { λ r. ⌜ r ≡ eqb (four-bytes (now (image .entry)) place) wanted ⌝ }
-{
-    let held = wide_quad(quad_at(image, place));
-    held == wanted
-}
-
-// The offsets of the node table and the edge table, the total and the length are what the counts give.
-fn later_offsets_fit(image: &[u8]) -> bool
-    requires { ⌜ 36 ≤ length (now image) ⌝ }
-    ensures { λ r. ⌜ r ≡ good-later-offsets (now (image .entry)) ⌝ }
-{
-    if !holds_at(image, 24, node_start_of(image)) {
-        return false;
-    }
-    if !holds_at(image, 28, edge_start_of(image)) {
-        return false;
-    }
-    let whole = total_of(image);
-    if !holds_at(image, 32, whole) {
-        return false;
-    }
-    image.len() == whole
-}
-
-// Number 4: the offsets, the total and the length are what the counts give.
-fn offsets_fit(image: &[u8]) -> bool
-    requires { ⌜ 36 ≤ length (now image) ⌝ }
-    ensures { λ r. ⌜ r ≡ good-offsets (now (image .entry)) ⌝ }
-{
-    if !holds_at(image, 16, 36) {
-        return false;
-    }
-    if !holds_at(image, 20, order_start_of(image)) {
-        return false;
-    }
-    later_offsets_fit(image)
-}
-
-// The process lengths.
-fn lengths_of(image: &[u8]) -> [u16; 64]
-    requires { ⌜ Laid (now image) ⌝ }
-    ensures { λ r. ⌜ r ≡ padded (entry (now (image .entry)) 36 2) 64 (two-bytes (now (image .entry)) 4) ⌝ }
-{
-    let n = count_at(image, 4);
-    let start = 36;
-    table_of_64(image, start, 2, n)
-}
-
-// The firing order.
-fn order_of(image: &[u8]) -> [u16; 64]
-    requires { ⌜ Laid (now image) ⌝ }
-    ensures { λ r. ⌜ r ≡ padded (entry (now (image .entry)) (order-start (now (image .entry))) 2) 64 (two-bytes (now (image .entry)) 2) ⌝ }
-{
-    let n = count_at(image, 2);
-    let start = order_start_of(image);
-    table_of_64(image, start, 2, n)
-}
-
-// The counter of each node.
-fn counter_of(image: &[u8]) -> [u16; 64]
-    requires { ⌜ Laid (now image) ⌝ }
-    ensures { λ r. ⌜ r ≡ padded (entry (now (image .entry)) (node-start (now (image .entry))) 4) 64 (two-bytes (now (image .entry)) 2) ⌝ }
-{
-    let n = count_at(image, 2);
-    let start = node_start_of(image);
-    table_of_64(image, start, 4, n)
-}
-
-// The increment of each node.
-fn increment_of(image: &[u8]) -> [u16; 64]
-    requires { ⌜ Laid (now image) ⌝ }
-    ensures { λ r. ⌜ r ≡ padded (entry (now (image .entry)) (node-start (now (image .entry)) + 2) 4) 64 (two-bytes (now (image .entry)) 2) ⌝ }
-{
-    let n = count_at(image, 2);
-    let start = node_start_of(image) + 2;
-    table_of_64(image, start, 4, n)
-}
-
-// The source of each edge.
-fn source_of(image: &[u8]) -> [u16; 512]
-    requires { ⌜ Laid (now image) ⌝ }
-    ensures { λ r. ⌜ r ≡ padded (entry (now (image .entry)) (edge-start (now (image .entry))) 6) 512 (two-bytes (now (image .entry)) 6) ⌝ }
-{
-    let n = count_at(image, 6);
-    let start = edge_start_of(image);
-    table_of_512(image, start, 6, n)
-}
-
-// The destination of each edge.
-fn destination_of(image: &[u8]) -> [u16; 512]
-    requires { ⌜ Laid (now image) ⌝ }
-    ensures { λ r. ⌜ r ≡ padded (entry (now (image .entry)) (edge-start (now (image .entry)) + 2) 6) 512 (two-bytes (now (image .entry)) 6) ⌝ }
-{
-    let n = count_at(image, 6);
-    let start = edge_start_of(image) + 2;
-    table_of_512(image, start, 6, n)
-}
-
-// The tokens of each edge.
-fn tokens_of(image: &[u8]) -> [u16; 512]
-    requires { ⌜ Laid (now image) ⌝ }
-    ensures { λ r. ⌜ r ≡ padded (entry (now (image .entry)) (edge-start (now (image .entry)) + 4) 6) 512 (two-bytes (now (image .entry)) 6) ⌝ }
-{
-    let n = count_at(image, 6);
-    let start = edge_start_of(image) + 4;
-    table_of_512(image, start, 6, n)
-}
-
-// Counter 0's sum.
-fn q_of(image: &[u8]) -> u32
-    requires { ⌜ Laid (now image) ⌝ }
-    ensures { λ r. ⌜ r ≡ plan-of (now (image .entry)) .q ⌝ }
-{
-    let counter = counter_of(image);
-    let increment = increment_of(image);
-    plan::counter_sum(&counter, &increment, count_at(image, 2), 0)
-}
-
-// The plan value that the image's numbers give.
-fn plan_from(image: &[u8]) -> Plan
-    requires { ⌜ Laid (now image) ⌝ }
-    ensures { λ r. ⌜ r ≡ plan-of (now (image .entry)) ⌝ }
-{
-    Plan {
-        nodes: pair_at(image, 2),
-        processes: pair_at(image, 4),
-        edges: pair_at(image, 6),
-        counters: pair_at(image, 8),
-        modulus: quad_at(image, 12),
-        q: q_of(image),
-        lengths: lengths_of(image),
-        order: order_of(image),
-        counter: counter_of(image),
-        increment: increment_of(image),
-        source: source_of(image),
-        destination: destination_of(image),
-        tokens: tokens_of(image),
-    }
 }
 
 // Nothing of a plan: every count, N, Q and every entry 0.
@@ -397,7 +130,7 @@ pub fn read(image: &[u8]) -> Reading
     if image.len() < 36 {
         return refusal(1);
     }
-    if format_fits(image) {
+    if image::format_fits(image) {
         return read_counted(image);
     }
     refusal(2)
@@ -409,17 +142,17 @@ fn read_counted(image: &[u8]) -> Reading
     ensures { λ r. ⌜ r ≡ reading-of (now (image .entry)) ⌝ }
 {
     let counts = entries::counts_bad(
-        pair_at(image, 2),
-        pair_at(image, 4),
-        pair_at(image, 6),
-        pair_at(image, 8),
-        quad_at(image, 12),
+        image::pair_at(image, 2),
+        image::pair_at(image, 4),
+        image::pair_at(image, 6),
+        image::pair_at(image, 8),
+        image::quad_at(image, 12),
     );
     if counts {
         return refusal(3);
     }
-    if offsets_fit(image) {
-        let plan = plan_from(image);
+    if image::offsets_fit(image) {
+        let plan = image::plan_from(image);
         return beside(judged_from_5(plan), plan);
     }
     refusal(4)

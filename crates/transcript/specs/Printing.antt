@@ -13,7 +13,7 @@ use Rattle.plan.specs.Faults.{InShape}
 use Rattle.conditions.specs.declared.Answer.{Answer}
 use Rattle.conditions.specs.declared.Answer.the-variants.{Accepted, Refused}
 use Rattle.reader.specs.declared.Reading.{Reading}
-use Rattle.reader.specs.Image.{four-bytes}
+use Rattle.image.specs.Image.{four-bytes}
 use Rattle.reader.specs.Tests.{reading-of}
 use Rattle.reader.specs.Theorems.{IsAccepted, accepted-sound, all-of-the-plan, answer-is}
 use Rattle.machine.specs.States.{fresh}

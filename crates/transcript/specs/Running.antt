@@ -13,7 +13,7 @@ use lib.Seq.{drop-cons}
 use Rattle.loops.specs.Choice.{at, if, if-true, if-false}
 use Rattle.plan.specs.declared.Plan.{Plan}
 use Rattle.plan.specs.Faults.{InShape}
-use Rattle.reader.specs.Image.{two-bytes}
+use Rattle.image.specs.Image.{two-bytes}
 use Rattle.machine.specs.declared.State.{State}
 use Rattle.machine.specs.declared.Turned.{Turned}
 use Rattle.machine.specs.declared.Began.{Began}

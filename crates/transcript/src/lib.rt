@@ -3,7 +3,7 @@ ghost use mathlib.Core.Path.{_≡_};
 ghost use Prim.Native.Nat.{_+_, _<_, _≤_};
 ghost use lib.ListN.{length};
 ghost use Rattle.plan.specs.Faults.{InShape};
-ghost use Rattle.reader.specs.Image.{two-bytes, four-bytes};
+ghost use Rattle.image.specs.Image.{two-bytes, four-bytes};
 ghost use Rattle.machine.specs.States.{fresh};
 ghost use Rattle.transcript.specs.Text.{calls-text, image-length, run-text, text-of};
 ghost use Rattle.lines.specs.Writing.{Put};

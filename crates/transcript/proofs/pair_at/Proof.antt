@@ -1,6 +1,6 @@
 -- `transcript::pair_at` meets its contract. Assumes nothing.
 use borrow.Author.Needs.{needs}
-use Rattle.reader.specs.Image.{two-bytes}
+use Rattle.image.specs.Image.{two-bytes}
 use Rattle.transcript.proofs.pair_at.Statement.{statement}
 use Rattle.transcript.proofs.pair_at.Tie as tie
 

@@ -1,6 +1,6 @@
 -- `transcript::total_field` meets its contract. Assumes nothing.
 use borrow.Author.Needs.{needs}
-use Rattle.reader.specs.Image.{four-bytes}
+use Rattle.image.specs.Image.{four-bytes}
 use Rattle.transcript.proofs.total_field.Statement.{statement}
 use Rattle.transcript.proofs.total_field.Tie as tie
 

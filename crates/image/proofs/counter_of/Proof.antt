@@ -1,0 +1,18 @@
+-- `image::counter_of` meets its contract. Assumes nothing.
+use borrow.Author.Needs.{needs}
+use native.Mathlib.Omega.{arith}
+use Rattle.image.specs.Image.{order-start, node-start, edge-start, total}
+use Rattle.image.proofs.counter_of.Statement.{statement}
+use Rattle.image.proofs.counter_of.Tie as tie
+
+table-of-64-requires : tie.Need-table-of-64-requires
+unfolding order-start node-start edge-start total
+table-of-64-requires c κs = (omega arith, λ k h. omega arith)
+
+returns : tie.Need-returns
+unfolding order-start node-start edge-start total
+returns c = cc
+
+pub counter-of-spec : {M : Type 1} → statement M
+counter-of-spec =
+    tie.close (tie.spec (λ c κs. search needs) (λ c κs. search needs) table-of-64-requires returns)

@@ -1,0 +1,12 @@
+-- `image::order_start_of` meets its contract. Assumes nothing.
+use borrow.Author.Needs.{needs}
+use Rattle.image.specs.Image.{order-start}
+use Rattle.image.proofs.order_start_of.Statement.{statement}
+use Rattle.image.proofs.order_start_of.Tie as tie
+
+returns : tie.Need-returns
+unfolding order-start
+returns c = search needs
+
+pub order-start-of-spec : {M : Type 1} → statement M
+order-start-of-spec = tie.close (tie.spec (λ c κs. search needs) (λ c. search needs) (λ c. search needs) returns)

@@ -1,0 +1,22 @@
+-- `image::pair_at` meets its contract. Assumes nothing.
+use borrow.Author.Needs.{needs}
+use Rattle.image.specs.Image.{two-bytes}
+use Rattle.image.proofs.pair_at.Statement.{statement}
+use Rattle.image.proofs.pair_at.Tie as tie
+
+returns : tie.Need-returns
+unfolding two-bytes
+returns c = search needs
+
+pub pair-at-spec : {M : Type 1} → statement M
+pair-at-spec =
+    tie.close
+    (tie.spec
+    (λ c. search needs)
+    (λ c κs. search needs)
+    (λ c. search needs)
+    (λ c. search needs)
+    (λ c κs. search needs)
+    (λ c. search needs)
+    (λ c. search needs)
+    returns)
