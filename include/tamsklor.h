@@ -1,8 +1,8 @@
 /* Tamsklor for the recorder's host in C: the plan check, the plan of an image,
    and a run of a plan by single calls.
 
-   Link with the archive that `rt staticlib host` writes,
-   target/staticlib/libhost.a (x86-64 Linux).
+   Link with the archive that `rt staticlib tamsklor` writes,
+   target/staticlib/libtamsklor.a (x86-64 Linux).
 
    Nothing need be checked before a call: every image, plan value, state and
    number is answered. What no check can see, and the caller answers for:

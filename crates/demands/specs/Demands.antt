@@ -10,13 +10,13 @@ use Rattle.loops.specs.Sum.{sum}
 use Rattle.net.specs.Graph.{Legal, Fireable, Emptiest, Linked, firings}
 use Rattle.plan.specs.declared.Plan.{Plan}
 use Rattle.plan.specs.Value.{graph-of, InProcess, share}
-use Rattle.conditions.specs.declared.Answer.the-variants.{Refused}
-use Rattle.conditions.specs.Sound.{Upheld}
+use Rattle.judge.specs.declared.Answer.the-variants.{Refused}
+use Rattle.judge.specs.Sound.{Upheld}
 use Rattle.reader.specs.declared.Reading.{Reading}
 use Rattle.image.specs.Image.{plan-of}
-use Rattle.reader.specs.Faults.{Fault}
+use Rattle.plan.specs.Chain.{FirstFault}
+use Rattle.reader.specs.Faults.{image-order}
 use Rattle.reader.specs.Layout.{Layout}
-use Rattle.reader.specs.Chain.{LowestFault}
 use Rattle.reader.specs.Tests.{verdict, no-plan, reading-of}
 use Rattle.reader.specs.Theorems as reader
 use Rattle.reader.specs.Theorems.{IsAccepted}
@@ -58,8 +58,8 @@ pub accepted-exactly : (s : List ℕ) → IsAccepted s ↔ (Layout s × Upheld (
 accepted-exactly = reader.accepted-exactly
 
 -- 01: "The lowest number that applies is given; within it the lowest place."
-pub refused-lowest : (s : List ℕ) (k p : ℕ) → (verdict s ≡ Refused k p) ↔ LowestFault (Fault s) k p
-refused-lowest = reader.refused-lowest
+pub refused-first : (s : List ℕ) (k p : ℕ) → (verdict s ≡ Refused k p) ↔ FirstFault (image-order s) k p
+refused-first = reader.refused-first
 
 -- an accepted image, its plan, and a list of calls made from the state that `begin` gives for it
 module _ (s : List ℕ) (a : IsAccepted s) where

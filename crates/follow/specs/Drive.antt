@@ -16,7 +16,7 @@ use Rattle.net.specs.Tables.{graph-of-tables}
 use Rattle.net.specs.Counts.{same-or-not}
 use Rattle.plan.specs.declared.Plan.{Plan}
 use Rattle.plan.specs.Value.{graph-of, node-at}
-use Rattle.conditions.specs.Sound.{Sound}
+use Rattle.judge.specs.Sound.{Sound}
 use Rattle.machine.specs.declared.State.{State}
 use Rattle.machine.specs.declared.Reply.the-variants.{Opened, Found, Fired}
 use Rattle.machine.specs.States.{mark, next-node}

@@ -12,12 +12,12 @@ use Rattle.net.specs.Tables.{graph-of-tables}
 use Rattle.net.specs.Seating.{seats-of}
 use Rattle.counting.specs.Modular.{less-earlier, finds}
 use Rattle.plan.specs.declared.Plan.{Plan}
-use Rattle.plan.specs.Value.{graph-of, node-at, Synchronising, share}
-use Rattle.conditions.specs.Sound.{Sound}
+use Rattle.plan.specs.Value.{graph-of, node-at, Synchronising, share, counter-sum}
+use Rattle.judge.specs.Sound.{Sound}
 use Rattle.machine.specs.declared.State.{State}
 use Rattle.machine.specs.Calls.{earlier, b-of, edge-found}
 use Rattle.follow.specs.Beside.{b, finds-edge, look-exact}
-use Rattle.follow.specs.PlanSeats.{tokens-after, shaped, seats, home-seat, between, counters}
+use Rattle.follow.specs.PlanSeats.{tokens-after, shaped, seats, home-seat, between, sum-at-end, counters}
 use Rattle.follow.specs.StandsFor.{Follows}
 
 module _ (pl : Plan) (sound : Sound pl) where
@@ -35,7 +35,8 @@ module _ (pl : Plan) (sound : Sound pl) where
   unfolding edge-found counters graph-of graph-of-tables
   edge-found-is st e h =
       let same =
-      ap₂ (finds (pl .q) (pl .modulus) (at (pl .tokens) e)) (b-is st (at (pl .destination) e) (shaped pl sound .destination-lt e h))
+      ap (λ q. finds q (pl .modulus) (at (pl .tokens) e) (b-of pl st (at (pl .destination) e)) (b-of pl st (at (pl .source) e))) (sym (sum-at-end pl sound e (at (pl .destination) e) (shaped pl sound .destination-lt e h)))
+      ∙ ap₂ (finds (counter-sum pl (at (pl .counter) (at (pl .destination) e))) (pl .modulus) (at (pl .tokens) e)) (b-is st (at (pl .destination) e) (shaped pl sound .destination-lt e h))
       (b-is st (at (pl .source) e) (shaped pl sound .source-lt e h)) in
       (λ t. sym same ∙ t, λ t. same ∙ t)
 

@@ -11,7 +11,7 @@ use Rattle.net.specs.Tables.{graph-of-tables}
 use Rattle.net.specs.ProcessEdges.{chord-holds}
 use Rattle.plan.specs.declared.Plan.{Plan}
 use Rattle.plan.specs.Value.{graph-of, InProcess}
-use Rattle.conditions.specs.Sound.{Sound}
+use Rattle.judge.specs.Sound.{Sound}
 use Rattle.machine.specs.declared.State.{State}
 use Rattle.machine.specs.declared.Reply.the-variants.{Fired}
 use Rattle.machine.specs.States.{next-node, Sized, StateInShape}

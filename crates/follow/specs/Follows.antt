@@ -6,7 +6,7 @@ use mathlib.Core.Logic.{_≢_}
 use Prim.Native.Nat.{ℕ, _<_}
 use Rattle.loops.specs.Choice.{at}
 use Rattle.plan.specs.declared.Plan.{Plan}
-use Rattle.conditions.specs.Sound.{Sound}
+use Rattle.judge.specs.Sound.{Sound}
 use Rattle.machine.specs.declared.State.{State}
 use Rattle.machine.specs.declared.Turned.{Turned}
 use Rattle.machine.specs.States.{mark, fresh}

@@ -16,7 +16,7 @@ use Rattle.net.specs.Seating.{seats-of}
 use Rattle.net.specs.Rounds.{moved}
 use Rattle.plan.specs.declared.Plan.{Plan}
 use Rattle.plan.specs.Value.{graph-of}
-use Rattle.conditions.specs.Sound.{Sound}
+use Rattle.judge.specs.Sound.{Sound}
 use Rattle.machine.specs.declared.State.{State}
 use Rattle.machine.specs.States.{mark, next-node}
 use Rattle.machine.specs.Calls.{edge-found, to-see, marks-left, opened-state, with-marks, found-state, next-position, fired-state}

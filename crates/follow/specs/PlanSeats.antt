@@ -12,12 +12,12 @@ use Rattle.net.specs.Processes.{Seats, Synchronising as between-processes}
 use Rattle.net.specs.Tables.{graph-of-tables}
 use Rattle.net.specs.Seating.{seats-of}
 use Rattle.plan.specs.declared.Plan.{Plan}
-use Rattle.plan.specs.Value.{graph-of, node-at, HasProcesses, Sits, InProcess, Synchronising, share, counter-sum}
+use Rattle.plan.specs.Value.{graph-of, node-at, HasProcesses, Sits, InProcess, Synchronising, share, counter-sum, edge-sum}
 use Rattle.plan.specs.Tests.{home, seat}
 use Rattle.plan.specs.Formed.{Tabled, formed, shaped as ends-are-nodes}
 use Rattle.plan.specs.Seating.{sits-unique}
-use Rattle.conditions.specs.Conditions.{RouteBack, C0, C1, C2, C3, C4, Multiple, Exceeds}
-use Rattle.conditions.specs.Sound.{Sound}
+use Rattle.judge.specs.Conditions.{RouteBack, C0, C1, C2, C3, C4, Multiple, Exceeds}
+use Rattle.judge.specs.Sound.{Sound}
 use Rattle.follow.specs.Counters.{Counters}
 
 -- the tokens of the plan's marked graph after the firings of a list
@@ -92,29 +92,29 @@ module _ (pl : Plan) (sound : Sound pl) where
       (sym (sits-home (at (pl .source) e) (tables .source-lt e (s .known)) (s .process-of-source) (s .source-in)) ∙ q
       ∙ sits-home (at (pl .destination) e) (tables .destination-lt e (s .known)) (s .process-of-destination) (s .destination-in))
 
-  -- every counter's increments sum to Q
-  pub full : (c : ℕ) → c < pl .counters → counter-sum pl c ≡ pl .q
-  unfolding C3
-  full c h = sound .c3 c h .0 ∙ sym (sound .shape .q-is)
+  -- the sum at an edge is that of either end's counter
+  pub sum-at-end : (e v : ℕ) → v < graph-of pl .nodes → counter-sum pl (at (pl .counter) v) ≡ edge-sum pl e
+  unfolding C3 edge-sum graph-of graph-of-tables
+  sum-at-end e v h = sound .c3 (at (pl .counter) v) (tables .counter-lt v h) .0
 
   -- the plan's counters
   unfoldable pub counters : Counters (graph-of pl) seats
-  unfolding graph-of graph-of-tables C1 C2 C4 Multiple Exceeds RouteBack counter-sum
+  unfolding graph-of graph-of-tables C1 C2 C4 C3 Multiple Exceeds RouteBack counter-sum edge-sum
   counters =
       record {
         counters = pl .counters;
         counter = at (pl .counter);
         share = share (pl .counter) (pl .increment);
-        total = λ c. pl .q;
+        total = counter-sum pl;
         n = pl .modulus;
         counter-lt = tables .counter-lt;
         share-other = share-none pl;
         c1 = λ u v hu hv e. sound .c1 u v hu hv e (seats .home u) (seats .home v) (seats .seat u, sits u hu) (seats .seat v, sits v hv);
         c2 = λ e h d. subst (0 <_) (sym (share-own pl (at (pl .source) e))) (sound .c2 e (synchronising e h d));
-        c3 = λ v h. (full (at (pl .counter) v) (tables .counter-lt v h), sound .shape .q-some);
-        same-total = λ e h d. refl;
-        divides = λ v h. (sound .c4 .0 .0, sound .c4 .0 .1 ∙ ap (_* sound .c4 .0 .0) (sym (sound .shape .q-is)));
+        c3 = λ v h. (refl, sound .c3 (at (pl .counter) v) (tables .counter-lt v h) .1);
+        same-total = λ e h d. sum-at-end e (at (pl .source) e) (tables .source-lt e h) ∙ sym (sum-at-end e (at (pl .destination) e) (tables .destination-lt e h));
+        divides = λ v h. (sound .c4 .0 .0, sound .c4 .0 .1 ∙ ap (_* sound .c4 .0 .0) (sym (sum-at-end 0 v h)));
         c4 = λ e h d.
             let r = sound .c4 .1 e (synchronising e h d) in
-            (r .0, r .1, subst (λ q. q * (at (pl .tokens) e + r .0) < pl .modulus) (sym (sound .shape .q-is)) (r .2));
+            (r .0, r .1, subst (λ q. q * (at (pl .tokens) e + r .0) < pl .modulus) (sym (sum-at-end e (at (pl .destination) e) (tables .destination-lt e h))) (r .2));
       }

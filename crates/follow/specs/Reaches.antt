@@ -9,7 +9,7 @@ use Rattle.net.specs.Append.{after-append}
 use Rattle.net.specs.Lead as lead
 use Rattle.plan.specs.declared.Plan.{Plan}
 use Rattle.plan.specs.Value.{graph-of}
-use Rattle.conditions.specs.Sound.{Sound}
+use Rattle.judge.specs.Sound.{Sound}
 use Rattle.machine.specs.declared.State.{State}
 use Rattle.machine.specs.States.{next-node, fresh}
 use Rattle.machine.specs.Runs.{Call, replies, last-state, fired-in, run-firings}

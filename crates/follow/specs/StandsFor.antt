@@ -11,7 +11,7 @@ use Rattle.net.specs.Processes.{Next}
 use Rattle.net.specs.Seating.{seats-of}
 use Rattle.plan.specs.declared.Plan.{Plan}
 use Rattle.plan.specs.Value.{graph-of, node-at}
-use Rattle.conditions.specs.Sound.{Sound}
+use Rattle.judge.specs.Sound.{Sound}
 use Rattle.machine.specs.declared.State.{State}
 use Rattle.machine.specs.States.{mark, next-node, fresh}
 use Rattle.machine.specs.FreshState.{fresh-position, fresh-opened, fresh-counter}

@@ -16,7 +16,7 @@ use Rattle.plan.specs.declared.Plan.{Plan}
 use Rattle.plan.specs.Value.{graph-of, InProcess, share}
 use Rattle.plan.specs.Faults.{InShape}
 use Rattle.plan.specs.Formed.{formed, shaped}
-use Rattle.conditions.specs.Sound.{Sound}
+use Rattle.judge.specs.Sound.{Sound}
 use Rattle.machine.specs.declared.State.{State}
 use Rattle.machine.specs.declared.Reply.{Reply}
 use Rattle.machine.specs.declared.Reply.the-variants.{Fired, Refused}

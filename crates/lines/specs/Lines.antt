@@ -2,8 +2,8 @@
 -- Assumes nothing.
 use mathlib.Core.List.{List, [], _∷_, _++_}
 use Prim.Native.Nat.{ℕ}
-use Rattle.conditions.specs.declared.Answer.{Answer}
-use Rattle.conditions.specs.declared.Answer.the-variants as answers
+use Rattle.judge.specs.declared.Answer.{Answer}
+use Rattle.judge.specs.declared.Answer.the-variants as answers
 use Rattle.machine.specs.declared.Reply.{Reply}
 use Rattle.machine.specs.declared.Reply.the-variants as replied
 use Rattle.lines.specs.Decimal.{decimal}

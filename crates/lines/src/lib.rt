@@ -6,7 +6,7 @@ ghost use lib.ListN.{length};
 ghost use Rattle.lines.specs.Words.{newline};
 ghost use Rattle.lines.specs.Lines.{number-then, plan-line, refused-line, refusal-text, said, line};
 ghost use Rattle.lines.specs.Writing.{Put};
-use conditions::Answer;
+use judge::Answer;
 use machine::Reply;
 use text::put_decimal;
 use text::put_number;

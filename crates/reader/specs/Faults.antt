@@ -1,12 +1,13 @@
 -- The faults of 01's table, "Numbers a plan can be turned down with", for an image. Definitions only, in 01's words.
 -- Assumes nothing.
 use mathlib.Core.Path.{_≡_}
-use mathlib.Core.List.{List, [], _∷_}
+use mathlib.Core.List.{List, _∷_}
 use mathlib.Core.Logic.{_⊎_, _≢_}
-use Prim.Native.Nat.{ℕ, zero, suc, _<_}
+use Prim.Native.Nat.{ℕ, _<_}
 use lib.ListN.{length}
 use Rattle.plan.specs.Faults.{Fault3, Fault5, Fault6, Fault7, Fault8}
-use Rattle.conditions.specs.Faults.{Fault9, Fault10, Fault11, Fault12, Fault13, Fault14, Fault15, Fault16}
+use Rattle.plan.specs.Chain.{Numbered}
+use Rattle.judge.specs.Decided.{conditions-order}
 use Rattle.image.specs.Image.{two-bytes, plan-of, OffsetsFit}
 
 module _ (s : List ℕ) where
@@ -22,20 +23,8 @@ module _ (s : List ℕ) where
   unfoldable pub Fault4 : ℕ → Type 0
   Fault4 place = (place ≡ 0) × (OffsetsFit s → ⊥)
 
-  -- 01's table, number 1 first
-  unfoldable pub faults : List (ℕ → Type 0)
-  faults =
-      Fault1 ∷ Fault2 ∷ Fault3 (plan-of s) ∷ Fault4 ∷ Fault5 (plan-of s) ∷ Fault6 (plan-of s) ∷ Fault7 (plan-of s) ∷ Fault8 (plan-of s)
-      ∷ Fault9 (plan-of s) ∷ Fault10 (plan-of s) ∷ Fault11 (plan-of s) ∷ Fault12 (plan-of s) ∷ Fault13 (plan-of s) ∷ Fault14 (plan-of s)
-      ∷ Fault15 (plan-of s) ∷ Fault16 (plan-of s) ∷ []
-
--- the entry of a table whose first has number 1
-unfoldable pub numbered : List (ℕ → Type 0) → ℕ → ℕ → Type 0
-numbered [] number place = ⊥
-numbered (f ∷ fs) zero place = ⊥
-numbered (f ∷ fs) (suc zero) place = f place
-numbered (f ∷ fs) (suc (suc k)) place = numbered fs (suc k) place
-
--- the image has the fault of that number at that place
-unfoldable pub Fault : List ℕ → ℕ → ℕ → Type 0
-Fault s number place = numbered (faults s) number place
+  -- 01's table in the order of its tests
+  unfoldable pub image-order : List Numbered
+  image-order =
+      (1, Fault1) ∷ (2, Fault2) ∷ (3, Fault3 (plan-of s)) ∷ (4, Fault4) ∷ (5, Fault5 (plan-of s)) ∷ (6, Fault6 (plan-of s)) ∷ (7, Fault7 (plan-of s))
+      ∷ (8, Fault8 (plan-of s)) ∷ conditions-order (plan-of s)

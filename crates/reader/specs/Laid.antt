@@ -11,16 +11,16 @@ use Rattle.loops.specs.Choice.{at, true-or-false}
 use Rattle.plan.specs.Value.{counter-sum}
 use Rattle.plan.specs.Faults.{Above, InShape, Fault3, Fault5, Fault6, Fault7, Fault8}
 use Rattle.plan.specs.Formed.{Tabled}
-use Rattle.conditions.specs.Sound.{Upheld}
-use Rattle.conditions.specs.Exactly.{NoFault, conditions-exactly}
+use Rattle.judge.specs.Sound.{Upheld}
+use Rattle.judge.specs.Exactly.{conditions-exactly}
+use Rattle.judge.specs.Decided.{none-applies, none-applies-back}
+use Rattle.plan.specs.Chain.{NoneOf}
 use Rattle.image.specs.Image.{two-bytes, plan-of}
-use Rattle.reader.specs.Faults.{Fault1, Fault2, Fault4, faults, numbered, Fault}
+use Rattle.reader.specs.Faults.{Fault1, Fault2, Fault4, image-order}
 use Rattle.reader.specs.Layout.{Layout}
 use Rattle.reader.specs.HeaderFaults.{test-4, offsets-exactly}
 use Rattle.image.specs.Header.{good-offsets}
 use Rattle.reader.specs.Decided.{clean-tabled}
-use Rattle.reader.specs.Chain.{Clean}
-use Rattle.reader.specs.Numbers.{NoneOf, none-numbered}
 
 module _ (s : List ℕ) where
   -- the layout's tables
@@ -40,18 +40,18 @@ module _ (s : List ℕ) where
         rising = l .rising;
       }
 
-  pub clean-laid : Clean (Fault s) 9 → Layout s
-  unfolding Fault numbered faults Fault1 Fault2
-  clean-laid c =
-      let t = clean-tabled s c in
+  pub clean-laid : NoneOf (image-order s) → Layout s
+  unfolding NoneOf image-order Fault1 Fault2
+  clean-laid n =
+      let t = clean-tabled s n in
       record {
-        header = elim (decLt (length s) 36) [ yes p ↦ absurd (c 1 0 (omega arith) (refl, p)) | no p ↦ omega arith ];
-        format-one = elim (ℕ-discrete (two-bytes s 0) 1) [ yes p ↦ p | no p ↦ absurd (c 2 0 (omega arith) (refl, inl p)) ];
-        zero = elim (ℕ-discrete (two-bytes s 10) 0) [ yes p ↦ p | no p ↦ absurd (c 2 0 (omega arith) (refl, inr p)) ];
+        header = elim (decLt (length s) 36) [ yes p ↦ absurd (n .0 0 (refl, p)) | no p ↦ omega arith ];
+        format-one = elim (ℕ-discrete (two-bytes s 0) 1) [ yes p ↦ p | no p ↦ absurd (n .1 .0 0 (refl, inl p)) ];
+        zero = elim (ℕ-discrete (two-bytes s 10) 0) [ yes p ↦ p | no p ↦ absurd (n .1 .0 0 (refl, inr p)) ];
         counts = t .counts;
         offsets = elim (true-or-false (good-offsets s)) [
           | inl p ↦ offsets-exactly s .0 p
-          | inr p ↦ absurd (c 4 0 (omega arith) (test-4 s 0 .0 (refl, p)))
+          | inr p ↦ absurd (n .1 .1 .1 .0 0 (test-4 s 0 .0 (refl, p)))
         ];
         length-some = t .length-some;
         full = t .full;
@@ -122,25 +122,35 @@ module _ (s : List ℕ) where
       }
 
   -- with its processes and C0 to C4 it has none at all
-  pub upheld-clean : Layout s → Upheld (plan-of s) → (k p : ℕ) → Fault s k p → ⊥
-  unfolding Fault faults NoneOf Fault1 Fault2 Fault4
-  upheld-clean l u =
-      let n : NoFault (plan-of s) = conditions-exactly (plan-of s) (laid-tabled l) .1 u in
-      none-numbered (faults s)
-      ((λ p f. omega (arith, f .1, l .header)), ((λ p f. ⊎-elim (λ g. g (l .format-one)) (λ g. g (l .zero)) (f .1)), (none-3 l, ((λ p f. f .1 (l .offsets)), (none-5 l, (none-6 l, (none-7 l, (none-8 l, (n .none-9, (n .none-10, (n .none-11, (n .none-12, (n .none-13, (n .none-14, (n .none-15, (n .none-16, tt))))))))))))))))
+  pub upheld-clean : Layout s → Upheld (plan-of s) → NoneOf (image-order s)
+  unfolding NoneOf image-order Fault1 Fault2 Fault4
+  upheld-clean l u = (
+    (λ p f. omega (arith, f .1, l .header)),
+    (
+      (λ p f. ⊎-elim (λ g. g (l .format-one)) (λ g. g (l .zero)) (f .1)),
+      (
+        none-3 l,
+        (
+          (λ p f. f .1 (l .offsets)),
+          (
+            none-5 l,
+            (
+              none-6 l,
+              (
+                none-7 l,
+                (
+                  none-8 l,
+                  none-applies-back (plan-of s) (conditions-exactly (plan-of s) (laid-tabled l) .1 u),
+                ),
+              ),
+            ),
+          ),
+        ),
+      ),
+    ),
+  )
 
   -- and the other way round
-  pub clean-upheld : ((k p : ℕ) → Fault s k p → ⊥) → Upheld (plan-of s)
-  unfolding Fault numbered faults
-  clean-upheld f =
-      conditions-exactly (plan-of s) (clean-tabled s (λ k p l. f k p)) .0
-      (record {
-        none-9 = f 9;
-        none-10 = f 10;
-        none-11 = f 11;
-        none-12 = f 12;
-        none-13 = f 13;
-        none-14 = f 14;
-        none-15 = f 15;
-        none-16 = f 16;
-      })
+  pub clean-upheld : NoneOf (image-order s) → Upheld (plan-of s)
+  unfolding NoneOf image-order
+  clean-upheld n = conditions-exactly (plan-of s) (clean-tabled s n) .0 (none-applies (plan-of s) (n .1 .1 .1 .1 .1 .1 .1 .1))

@@ -12,9 +12,9 @@ use Rattle.plan.specs.Value.{counter-sum}
 use Rattle.plan.specs.Faults.{CountsFit}
 use Rattle.plan.specs.Passed.{counts-fit}
 use Rattle.plan.specs.Tests.{bad-counts}
-use Rattle.conditions.specs.declared.Answer.{Answer}
-use Rattle.conditions.specs.declared.Answer.the-variants.{Refused}
-use Rattle.conditions.specs.Tests.{refuse-if}
+use Rattle.judge.specs.declared.Answer.{Answer}
+use Rattle.judge.specs.declared.Answer.the-variants.{Refused}
+use Rattle.judge.specs.Tests.{refuse-if}
 use Rattle.reader.specs.declared.Reading.{Reading}
 use Rattle.image.specs.Image.{two-bytes, four-bytes, plan-of}
 use Rattle.reader.specs.HeaderFaults.{offsets-exactly}

@@ -8,9 +8,9 @@ use Rattle.loops.specs.Choice.{if}
 use Rattle.plan.specs.declared.Plan.{Plan}
 use Rattle.plan.specs.Value.{base}
 use Rattle.plan.specs.Tests.{bad-counts, zero-length, bad-order, bad-node, bad-edge}
-use Rattle.conditions.specs.declared.Answer.{Answer}
-use Rattle.conditions.specs.declared.Answer.the-variants.{Accepted, Refused}
-use Rattle.conditions.specs.Tests.{refuse-if, refuse-lowest, from-9}
+use Rattle.judge.specs.declared.Answer.{Answer}
+use Rattle.judge.specs.declared.Answer.the-variants.{Accepted, Refused}
+use Rattle.judge.specs.Tests.{refuse-if, refuse-lowest, from-9}
 use Rattle.reader.specs.declared.Reading.{Reading}
 use Rattle.image.specs.Image.{two-bytes, four-bytes, plan-of}
 use Rattle.image.specs.Header.{good-format, good-offsets}

@@ -5,24 +5,23 @@ use mathlib.Core.List.{List}
 use mathlib.Core.Logic.{_⊎_, inl, inr, _↔_}
 use Prim.Native.Nat.{ℕ, _≤_}
 use native.Mathlib.Omega.{arith}
-use native.Mathlib.Decide.{decLt}
 use Rattle.plan.specs.Value.{counter-sum, Synchronising}
 use Rattle.plan.specs.Unique.{one-answer}
-use Rattle.conditions.specs.declared.Answer.the-variants.{Accepted, Refused}
-use Rattle.conditions.specs.Conditions.{LeastModulus}
-use Rattle.conditions.specs.Sound.{Upheld, Sound}
-use Rattle.conditions.specs.Tests.{least-modulus}
-use Rattle.conditions.specs.Exactly.{q-some, conditions-exactly}
-use Rattle.conditions.specs.Least as conditions
-use Rattle.conditions.specs.Least.{least-alone}
+use Rattle.plan.specs.Chain.{FirstFault, EachNumber, first-number}
+use Rattle.judge.specs.declared.Answer.the-variants.{Accepted, Refused}
+use Rattle.judge.specs.Conditions.{LeastModulus}
+use Rattle.judge.specs.Sound.{Upheld, Sound}
+use Rattle.judge.specs.Tests.{least-modulus}
+use Rattle.judge.specs.Exactly.{q-some, conditions-exactly}
+use Rattle.judge.specs.Least as conditions
+use Rattle.judge.specs.Least.{least-alone}
 use Rattle.reader.specs.declared.Reading.{Reading}
 use Rattle.image.specs.Image.{plan-of}
-use Rattle.reader.specs.Faults.{Fault}
+use Rattle.reader.specs.Faults.{image-order}
 use Rattle.reader.specs.Layout.{Layout}
 use Rattle.reader.specs.Tests.{verdict, no-plan, plan-beside, reading-of}
-use Rattle.reader.specs.Chain.{LowestFault}
-use Rattle.reader.specs.Numbers.{few-faults, below-one}
-use Rattle.reader.specs.Decided.{accepted, outcome, not-accepted}
+use Rattle.judge.specs.Decided.{conditions-order, accepted, not-accepted}
+use Rattle.reader.specs.Decided.{outcome}
 use Rattle.reader.specs.Laid.{laid-tabled, laid-in-shape, clean-laid, upheld-clean, clean-upheld}
 
 -- the image is accepted
@@ -41,16 +40,42 @@ module _ (s : List ℕ) where
 
   -- "Every plan image … is answered": accepted, or refused with a number from 1 to 16 and a place
   pub answered : IsAccepted s ⊎ ((k p : ℕ) × (verdict s ≡ Refused k p) × (1 ≤ k) × (k ≤ 16))
+  unfolding EachNumber image-order conditions-order
   answered =
       elim (outcome s .one-of) [
         | inl a ↦ inl (_, _, _, a)
         | inr r ↦
-            let l : LowestFault (Fault s) (r .0) (r .1) = outcome s .refused-lowest (r .0) (r .1) .0 (r .2) in
-            let high = few-faults s (r .0) (r .1) (l .here) in
-            inr (r .0, r .1, r .2, elim (decLt (r .0) 1) [ yes z ↦ absurd (below-one s (r .0) (r .1) z (l .here)) | no z ↦ omega arith ], omega arith)
+            let few =
+            first-number (λ k. (1 ≤ k) × (k ≤ 16)) (image-order s) (
+              (omega arith, omega arith),
+              (
+                (omega arith, omega arith),
+                (
+                  (omega arith, omega arith),
+                  (
+                    (omega arith, omega arith),
+                    (
+                      (omega arith, omega arith),
+                      (
+                        (omega arith, omega arith),
+                        (
+                          (omega arith, omega arith),
+                          (
+                            (omega arith, omega arith),
+                            ((omega arith, omega arith), ((omega arith, omega arith), ((omega arith, omega arith), ((omega arith, omega arith), ((omega arith, omega arith), ((omega arith, omega arith), ((omega arith, omega arith), ((omega arith, omega arith), tt)))))))),
+                          ),
+                        ),
+                      ),
+                    ),
+                  ),
+                ),
+              ),
+            )
+            (r .0) (r .1) (outcome s .refused-first (r .0) (r .1) .0 (r .2)) in
+            inr (r .0, r .1, r .2, few .0, few .1)
       ]
 
-  is-accepted : IsAccepted s → verdict s ≡ accepted s
+  is-accepted : IsAccepted s → verdict s ≡ accepted (plan-of s)
   is-accepted a =
       elim (outcome s .one-of) [
         | inl h ↦ h
@@ -60,13 +85,13 @@ module _ (s : List ℕ) where
   -- "A plan is accepted exactly when its layout and Lamport's conditions C0 to C4, as document 01 lists them, hold."
   pub accepted-exactly : IsAccepted s ↔ (Layout s × Upheld (plan-of s))
   accepted-exactly = (
-    λ a. let c = outcome s .final-clean .0 (is-accepted a) in (clean-laid s (λ k p l. c k p), clean-upheld s c),
+    λ a. let c = outcome s .final-clean .0 (is-accepted a) in (clean-laid s c, clean-upheld s c),
     λ h. (_, _, _, outcome s .final-clean .1 (upheld-clean s (h .0) (h .1))),
   )
 
-  -- "The lowest number that applies is given; within it the lowest place."
-  pub refused-lowest : (k p : ℕ) → (verdict s ≡ Refused k p) ↔ LowestFault (Fault s) k p
-  refused-lowest = outcome s .refused-lowest
+  -- "The lowest number that applies is given; within it the lowest place.": the first of the order, in which numbers rise
+  pub refused-first : (k p : ℕ) → (verdict s ≡ Refused k p) ↔ FirstFault (image-order s) k p
+  refused-first = outcome s .refused-first
 
   -- "the least modulus: the smallest N that would pass 15 and 16 (Q where no edge synchronises)"
   pub least-is-least : (q modulus least : ℕ) → verdict s ≡ Accepted q modulus least

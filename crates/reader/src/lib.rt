@@ -9,7 +9,7 @@ ghost use Rattle.plan.specs.Passed.{Passes};
 ghost use Rattle.image.specs.Header.{good-format};
 ghost use Rattle.reader.specs.Tests.{from-5, from-6, no-plan, reading-of};
 ghost use Rattle.reader.specs.Steps.{with-plan, refusal-of};
-use conditions::Answer;
+use judge::Answer;
 use plan::Plan;
 
 // The answer, and beside it the plan: all 0 after a refusal.
@@ -85,7 +85,7 @@ fn judged_from_6(plan: Plan) -> Answer
     if edge < edges {
         return refused_at(8, edge);
     }
-    conditions::judge(plan)
+    judge::judge(plan)
 }
 
 // Test 5, and what comes after it.

@@ -10,8 +10,8 @@ use lib.Seq.{take-all}
 use Rattle.loops.specs.Choice.{if-true, if-false}
 use Rattle.plan.specs.declared.Plan.{Plan}
 use Rattle.plan.specs.Faults.{InShape}
-use Rattle.conditions.specs.declared.Answer.{Answer}
-use Rattle.conditions.specs.declared.Answer.the-variants.{Accepted, Refused}
+use Rattle.judge.specs.declared.Answer.{Answer}
+use Rattle.judge.specs.declared.Answer.the-variants.{Accepted, Refused}
 use Rattle.reader.specs.declared.Reading.{Reading}
 use Rattle.image.specs.Image.{four-bytes}
 use Rattle.reader.specs.Tests.{reading-of}

@@ -6,8 +6,8 @@ use lib.Dec.{ltb}
 use lib.ListN.{length, take, drop}
 use Rattle.loops.specs.Choice.{if}
 use Rattle.plan.specs.declared.Plan.{Plan}
-use Rattle.conditions.specs.declared.Answer.{Answer}
-use Rattle.conditions.specs.declared.Answer.the-variants as answers
+use Rattle.judge.specs.declared.Answer.{Answer}
+use Rattle.judge.specs.declared.Answer.the-variants as answers
 use Rattle.reader.specs.declared.Reading.{Reading}
 use Rattle.image.specs.Image.{four-bytes}
 use Rattle.reader.specs.Tests.{reading-of}

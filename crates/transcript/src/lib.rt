@@ -9,7 +9,7 @@ ghost use Rattle.transcript.specs.Text.{calls-text, image-length, run-te
 ghost use Rattle.lines.specs.Writing.{Put};
 ghost use Rattle.transcript.specs.Running.{cut-if};
 ghost use Rattle.transcript.specs.Printing.{Answers};
-use conditions::Answer;
+use judge::Answer;
 use plan::Plan;
 
 // What `transcript` answers: the length of the text that it wrote, or the length that the buffer is too short for.

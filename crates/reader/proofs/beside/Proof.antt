@@ -1,7 +1,7 @@
 -- `reader::beside` meets its contract. Assumes nothing.
 use borrow.Author.Needs.{needs}
 use mathlib.Core.Path.{sym, ap, _∙_}
-use Rattle.conditions.specs.declared.Answer.the-variants.{Refused}
+use Rattle.judge.specs.declared.Answer.the-variants.{Refused}
 use Rattle.reader.specs.Tests.{plan-beside}
 use Rattle.reader.specs.Steps.{with-plan}
 use Rattle.reader.proofs.beside.Statement.{statement}

@@ -5,7 +5,7 @@ use mathlib.Core.Path.{sym, _∙_}
 use borrow.Author.Tests.{eq-eqb, ne-eqb}
 use Rattle.loops.specs.Choice.{if-yes, if-no}
 use Rattle.plan.specs.Passed.{passes-5}
-use Rattle.conditions.specs.Refusing.{refused-here, passed-here}
+use Rattle.judge.specs.Refusing.{refused-here, passed-here}
 use Rattle.reader.specs.Tests.{from-5}
 use Rattle.reader.proofs.judged_from_5.Statement.{statement}
 use Rattle.reader.proofs.judged_from_5.Tie as tie

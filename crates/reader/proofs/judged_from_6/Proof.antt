@@ -2,7 +2,7 @@
 use borrow.Author.Needs.{needs}
 use Rattle.plan.specs.Passed.{passes-3, counts-pass, passes, test-6, test-7, test-8}
 use Rattle.plan.specs.Formed.{tabled}
-use Rattle.conditions.specs.Refusing.{refused-here, passed-here}
+use Rattle.judge.specs.Refusing.{refused-here, passed-here}
 use Rattle.reader.specs.Tests.{from-6}
 use native.Mathlib.Omega.{arith}
 use Rattle.reader.proofs.judged_from_6.Statement.{statement}

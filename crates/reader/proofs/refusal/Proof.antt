@@ -1,7 +1,7 @@
 -- `reader::refusal` meets its contract. Assumes nothing.
 use borrow.Author.Needs.{needs}
 use mathlib.Core.Path.{ap}
-use Rattle.conditions.specs.declared.Answer.the-variants.{Refused}
+use Rattle.judge.specs.declared.Answer.the-variants.{Refused}
 use Rattle.reader.specs.Steps.{refusal-of}
 use Rattle.reader.proofs.refusal.Statement.{statement}
 use Rattle.reader.proofs.refusal.Tie as tie

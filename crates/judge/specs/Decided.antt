@@ -1,0 +1,69 @@
+-- The order of 01's numbers from 9 on, and that the tests decide by it. Assumes nothing.
+use mathlib.Core.Path.{_≡_}
+use mathlib.Core.List.{List, [], _∷_}
+use Prim.Native.Nat.{ℕ}
+use native.Mathlib.Omega.{arith}
+use Rattle.plan.specs.declared.Plan.{Plan}
+use Rattle.plan.specs.Value.{counter-sum}
+use Rattle.plan.specs.Chain.{Numbered, NoneOf, Outcome, decides-lowest, decides-if, decides-final}
+use Rattle.plan.specs.Formed.{Tabled}
+use Rattle.judge.specs.declared.Answer.{Answer}
+use Rattle.judge.specs.declared.Answer.the-variants.{Accepted, Refused}
+use Rattle.judge.specs.Faults.{Fault9, Fault10, Fault11, Fault12, Fault13, Fault14, Fault15, Fault16}
+use Rattle.judge.specs.Tests.{refuse-if, refuse-lowest, bad-position, bad-counter, bad-increment, bad-sum, on-free-cycle, no-way-back, not-multiple, not-above-bound, least-modulus, from-13, from-9}
+use Rattle.judge.specs.ProcessFaults.{test-9}
+use Rattle.judge.specs.CounterFaults.{test-10, test-11, test-12}
+use Rattle.judge.specs.RouteFaults.{test-13, test-14, test-15, test-16}
+use Rattle.judge.specs.Exactly.{NoFault, q-some}
+
+pub refused-one : (k p k′ p′ : ℕ) → Refused k p ≡ Refused k′ p′ → (k ≡ k′) × (p ≡ p′)
+refused-one k p k′ p′ e = (cc, cc)
+
+pub not-accepted : (k p q n m : ℕ) → Refused k p ≡ Accepted q n m → ⊥
+not-accepted k p q n m e = let z : _≡_ {A = ℕ} 0 1 = cc in omega arith
+
+module _ (pl : Plan) where
+  -- what an accepted plan is answered: Q, N and the least modulus
+  abbrev pub accepted : Answer
+  accepted = Accepted (counter-sum pl 0) (pl .modulus) (least-modulus pl)
+
+  -- the faults of a plan value's conditions in the order of their tests
+  unfoldable pub conditions-order : List Numbered
+  conditions-order =
+      (9, Fault9 pl) ∷ (10, Fault10 pl) ∷ (11, Fault11 pl) ∷ (12, Fault12 pl) ∷ (13, Fault13 pl) ∷ (14, Fault14 pl) ∷ (15, Fault15 pl) ∷ (16, Fault16 pl) ∷ []
+
+  abbrev pub Decided : List Numbered → Answer → Type 0
+  Decided = Outcome Refused accepted refused-one (λ k p. not-accepted k p (counter-sum pl 0) (pl .modulus) (least-modulus pl))
+
+  -- the tests find the first
+  pub conditions-decided : Tabled pl → Decided conditions-order (from-9 pl)
+  unfolding from-9 from-13 refuse-lowest refuse-if conditions-order
+  conditions-decided t =
+      decides-lowest _ _ _ _ 9 _ _ (bad-position pl) (pl .nodes) _ (test-9 pl t) (λ n9.
+      decides-lowest _ _ _ _ 10 _ _ (bad-counter pl) (pl .counters) _ (test-10 pl t) (λ n10.
+      decides-lowest _ _ _ _ 11 _ _ (bad-increment pl) (pl .nodes) _ (test-11 pl t) (λ n11.
+      decides-lowest _ _ _ _ 12 _ _ (bad-sum pl) (pl .counters) _ (test-12 pl t) (λ n12.
+      decides-lowest _ _ _ _ 13 _ _ (on-free-cycle pl) (pl .nodes) _ (test-13 pl t) (λ n13.
+      decides-lowest _ _ _ _ 14 _ _ (no-way-back pl) (pl .edges) _ (test-14 pl t) (λ n14.
+      decides-if _ _ _ _ 15 _ _ (not-multiple pl) _ (test-15 pl t (q-some pl t n12)) (λ n15.
+      decides-lowest _ _ _ _ 16 _ _ (not-above-bound pl) (pl .edges) _ (test-16 pl t n14) (λ n16.
+      decides-final _ _ _ _))))))))
+
+  -- none of them applies exactly where there is no fault
+  pub none-applies : NoneOf conditions-order → NoFault pl
+  unfolding NoneOf conditions-order
+  none-applies n =
+      record {
+        none-9 = n .0;
+        none-10 = n .1 .0;
+        none-11 = n .1 .1 .0;
+        none-12 = n .1 .1 .1 .0;
+        none-13 = n .1 .1 .1 .1 .0;
+        none-14 = n .1 .1 .1 .1 .1 .0;
+        none-15 = n .1 .1 .1 .1 .1 .1 .0;
+        none-16 = n .1 .1 .1 .1 .1 .1 .1 .0;
+      }
+
+  pub none-applies-back : NoFault pl → NoneOf conditions-order
+  unfolding NoneOf conditions-order
+  none-applies-back f = (f .none-9, (f .none-10, (f .none-11, (f .none-12, (f .none-13, (f .none-14, (f .none-15, (f .none-16, tt))))))))
