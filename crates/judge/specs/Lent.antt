@@ -7,17 +7,12 @@ use Rattle.loops.specs.Table.{padded}
 use Rattle.plan.specs.declared.Plan.{Plan}
 use Rattle.plan.specs.Value.{counter-sum}
 use Rattle.plan.specs.Formed.{Tabled}
-use Rattle.plan.specs.Seating.{home-table}
-use Rattle.seats.specs.Crossing.{crosses}
+use Rattle.seats.specs.Crossing.{crossing-table}
 use Rattle.cycles.specs.Lent.{loop-sum-in}
 
 -- the loop sums of a plan's edges as a table, 0 past the count
 abbrev pub sum-table : Plan → List ℕ
 sum-table pl = padded (loop-sum-in (pl .source) (pl .destination) (pl .tokens) (pl .edges)) 512 (pl .edges)
-
--- 1 for each synchronising edge of a plan, 0 for the others and past the count
-abbrev pub crossing-table : Plan → List ℕ
-crossing-table pl = padded (crosses (home-table pl) (pl .source) (pl .destination)) 512 (pl .edges)
 
 -- the plan's tests 3 and 5 to 8 have passed, its Q is counter 0's sum, and `crossing` says which of its edges synchronise
 pub record Crossed (pl : Plan) (crossing : List ℕ) : Type 0 where

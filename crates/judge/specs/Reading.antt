@@ -25,9 +25,9 @@ use Rattle.routes.specs.Settling.{row-most}
 use Rattle.rounds.specs.Lent.{has-counter}
 use Rattle.judge.specs.Tests.{bad-position, strays, bad-counter, sends, bad-increment, bad-sum, loop-sum, closes-free, on-free-cycle, no-way-back, not-multiple, not-above-bound, asks, least-modulus}
 use Rattle.rounds.specs.Lent.{lacks-edge, strays-in, bad-counter-in, sends-in, bad-increment-in, bad-sum-in}
-use Rattle.seats.specs.Crossing.{crosses}
+use Rattle.seats.specs.Crossing.{crosses, crossing-table}
 use Rattle.cycles.specs.Lent.{loop-sum-in, closes-free-in, on-free-cycle-in, no-way-back-in, not-above-in, asks-in, most-asked, Small}
-use Rattle.judge.specs.Lent.{sum-table, crossing-table}
+use Rattle.judge.specs.Lent.{sum-table}
 
 -- "not" as a choice
 if-not : (t : Bool) → if t false true ≡ not t
