@@ -25,7 +25,21 @@ fn fresh_state() -> State
 pub fn both_fit(plan: Plan, state: State) -> bool
     ensures { λ r. ⌜ r ≡ both-fit plan state ⌝ }
 {
-    if shape::fits(plan) {
+    if shape::fits(
+        plan.nodes,
+        plan.processes,
+        plan.edges,
+        plan.counters,
+        plan.modulus,
+        plan.q,
+        &plan.lengths,
+        &plan.order,
+        &plan.counter,
+        &plan.increment,
+        &plan.source,
+        &plan.destination,
+        &plan.tokens,
+    ) {
         return machine::state_fits(plan, state);
     }
     false
@@ -36,7 +50,21 @@ pub fn begin(plan: Plan) -> Began
     ensures { λ r. ⌜ r ≡ begin-run plan ⌝ }
 {
     let state = fresh_state();
-    if shape::fits(plan) {
+    if shape::fits(
+        plan.nodes,
+        plan.processes,
+        plan.edges,
+        plan.counters,
+        plan.modulus,
+        plan.q,
+        &plan.lengths,
+        &plan.order,
+        &plan.counter,
+        &plan.increment,
+        &plan.source,
+        &plan.destination,
+        &plan.tokens,
+    ) {
         return Began { number: 0, state };
     }
     Began { number: 25, state }

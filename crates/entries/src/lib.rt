@@ -1,9 +1,18 @@
 // Tests 3 and 5 to 8 over counts and lent tables: bounds, lengths, order, nodes and edges.
 ghost use mathlib.Core.Path.{_≡_};
+ghost use mathlib.Core.List.{[]};
 ghost use Prim.Native.Nat.{_<_, _≤_};
 ghost use Rattle.loops.specs.First.{first};
 ghost use Rattle.loops.specs.Any.{any};
+ghost use Rattle.plan.specs.Value.{plan-with};
+ghost use Rattle.entries.specs.Answer.{order-answer, tables-answer};
 ghost use Rattle.plan.specs.Tests.{outside, bad-counts, zero-length, same-entry, bad-order, bad-node, not-above, not-rising, bad-edge};
+
+// What tests 5 to 8 answer: they passed, or the refusal's number and place.
+pub enum Checked {
+    Passed,
+    Refused { number: u32, place: u32 },
+}
 
 // A number below its least value or above its greatest.
 fn is_outside(low: u32, high: u32, x: u32) -> bool
@@ -198,4 +207,82 @@ pub fn first_bad_edge<'a>(
         e += 1;
     }
     e
+}
+
+// Turned down with a number at a place.
+fn refused(number: u32, place: usize) -> Checked
+    requires { ⌜ place ≤ 512 ⌝ }
+    ensures { λ r. ⌜ r ≡ Checked.Refused number place ⌝ }
+{
+    Checked::Refused {
+        number,
+        place: place as u32,
+    }
+}
+
+// Tests 6 to 8 in order.
+fn order_on<'a>(
+    nodes: usize,
+    edges: usize,
+    counters: usize,
+    order: &'a [u16; 64],
+    counter: &'a [u16; 64],
+    increment: &'a [u16; 64],
+    source: &'a [u16; 512],
+    destination: &'a [u16; 512],
+    tokens: &'a [u16; 512],
+) -> Checked
+    requires { ⌜ (nodes ≤ 64) × (edges ≤ 512) ⌝ }
+    ensures { λ r. ⌜ r ≡ order-answer (plan-with nodes 0 edges counters 0 0 [] (now (order .entry)) (now (counter .entry)) (now (increment .entry)) (now (source .entry)) (now (destination .entry)) (now (tokens .entry))) ⌝ }
+{
+    let position = first_bad_order(order, nodes);
+    if position < nodes {
+        return refused(6, position);
+    }
+    let node = first_bad_node(counter, increment, counters, nodes);
+    if node < nodes {
+        return refused(7, node);
+    }
+    let edge = first_bad_edge(source, destination, tokens, nodes, edges);
+    if edge < edges {
+        return refused(8, edge);
+    }
+    Checked::Passed
+}
+
+// Tests 5 to 8 in order, over counts and lent tables.
+pub fn tables<'a>(
+    nodes: usize,
+    processes: usize,
+    edges: usize,
+    counters: usize,
+    lengths: &'a [u16; 64],
+    order: &'a [u16; 64],
+    counter: &'a [u16; 64],
+    increment: &'a [u16; 64],
+    source: &'a [u16; 512],
+    destination: &'a [u16; 512],
+    tokens: &'a [u16; 512],
+) -> Checked
+    requires { ⌜ (nodes ≤ 64) × (processes ≤ 64) × (edges ≤ 512) ⌝ }
+    ensures { λ r. ⌜ r ≡ tables-answer (plan-with nodes processes edges counters 0 0 (now (lengths .entry)) (now (order .entry)) (now (counter .entry)) (now (increment .entry)) (now (source .entry)) (now (destination .entry)) (now (tokens .entry))) ⌝ }
+{
+    let empty = first_zero_length(lengths, processes);
+    if empty < processes {
+        return refused(5, empty);
+    }
+    if plan::lengths_sum(lengths, processes) == nodes {
+        return order_on(
+            nodes,
+            edges,
+            counters,
+            order,
+            counter,
+            increment,
+            source,
+            destination,
+            tokens,
+        );
+    }
+    refused(5, processes)
 }

@@ -16,7 +16,7 @@ use Rattle.net.specs.Tables.{graph-of-tables}
 use Rattle.plan.specs.declared.Plan.{Plan}
 use Rattle.plan.specs.Value.{graph-of, base, share, counter-sum}
 use Rattle.plan.specs.Faults.{CountsFit, Fault3, Fault5, Fault6, Fault7, Fault8, Above, InShape}
-use Rattle.plan.specs.Tests.{q-fits, edges-fit, nodes-fit, order-fits, lengths-fit, plan-fits}
+use Rattle.plan.specs.Tests.{refuse-lowest, order-then, tables-then, q-fits, plan-fits}
 use Rattle.plan.specs.Passed.{IsFault, Passes, passes, passed, counts-fit, passes-3, passes-5, test-6, test-7, test-8}
 
 -- tests 3, 5, 6, 7 and 8 pass: what the tables hold
@@ -126,7 +126,7 @@ module _ {f : ℕ → Bool} {n : ℕ} {Fault : ℕ → Type 0} (is : IsFault f n
 
 -- the shape test is the shape
 pub fits-exactly : (pl : Plan) → (plan-fits pl ≡ true) ↔ InShape pl
-unfolding plan-fits lengths-fit order-fits nodes-fit edges-fit q-fits both
+unfolding plan-fits tables-then order-then refuse-lowest q-fits both
 fits-exactly pl = (
   λ e.
       let e3 = past _ _ e in

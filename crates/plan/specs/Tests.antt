@@ -80,22 +80,35 @@ synchronises pl e = if (eqb (home pl (at (pl .source) e)) (home pl (at (pl .dest
 unfoldable pub different : List ℕ → ℕ → ℕ → Bool
 different homes v w = if (eqb (at homes v) (at homes w)) false true
 
--- the shape of a plan value, test by test
+-- ---- tests in order
+module _ {A : Type 0} (refused : ℕ → ℕ → A) where
+  -- refused with `number` at the lowest place below `bound` where the test is true; otherwise what comes next
+  unfoldable pub refuse-lowest : ℕ → (ℕ → Bool) → ℕ → A → A
+  refuse-lowest number test bound next = if (ltb (first test bound) bound) (refused number (first test bound)) next
+
+  -- refused with `number` at place 0 where the test is true; otherwise what comes next
+  unfoldable pub refuse-if : ℕ → Bool → A → A
+  refuse-if number test next = if test (refused number 0) next
+
+  -- tests 6 to 8 of a plan value, then what comes next
+  unfoldable pub order-then : Plan → A → A
+  order-then pl next =
+      refuse-lowest 6 (bad-order (pl .order) (pl .nodes)) (pl .nodes)
+      (refuse-lowest 7 (bad-node (pl .counter) (pl .increment) (pl .counters)) (pl .nodes)
+      (refuse-lowest 8 (bad-edge (pl .source) (pl .destination) (pl .tokens) (pl .nodes)) (pl .edges)
+      next))
+
+  -- tests 5 to 8 of a plan value, then what comes next
+  unfoldable pub tables-then : Plan → A → A
+  tables-then pl next =
+      refuse-lowest 5 (zero-length (pl .lengths)) (pl .processes)
+      (if (eqb (base (pl .lengths) (pl .processes)) (pl .nodes)) (order-then pl next) (refused 5 (pl .processes)))
+
+-- its Q is counter 0's sum and at least 1
 unfoldable pub q-fits : Plan → Bool
 q-fits pl = both (eqb (counter-sum pl 0) (pl .q)) (leb 1 (pl .q))
 
-unfoldable pub edges-fit : Plan → Bool
-edges-fit pl = if (ltb (first (bad-edge (pl .source) (pl .destination) (pl .tokens) (pl .nodes)) (pl .edges)) (pl .edges)) false (q-fits pl)
-
-unfoldable pub nodes-fit : Plan → Bool
-nodes-fit pl = if (ltb (first (bad-node (pl .counter) (pl .increment) (pl .counters)) (pl .nodes)) (pl .nodes)) false (edges-fit pl)
-
-unfoldable pub order-fits : Plan → Bool
-order-fits pl = if (ltb (first (bad-order (pl .order) (pl .nodes)) (pl .nodes)) (pl .nodes)) false (nodes-fit pl)
-
-unfoldable pub lengths-fit : Plan → Bool
-lengths-fit pl =
-    if (ltb (first (zero-length (pl .lengths)) (pl .processes)) (pl .processes)) false (if (eqb (base (pl .lengths) (pl .processes)) (pl .nodes)) (order-fits pl) false)
-
+-- the shape of a plan value: "tests 3, 5, 6, 7 and 8 pass on it and its Q is counter 0's sum and at least 1"
 unfoldable pub plan-fits : Plan → Bool
-plan-fits pl = if (bad-counts (pl .nodes) (pl .processes) (pl .edges) (pl .counters) (pl .modulus)) false (lengths-fit pl)
+plan-fits pl =
+    if (bad-counts (pl .nodes) (pl .processes) (pl .edges) (pl .counters) (pl .modulus)) false (tables-then (λ number place. false) pl (q-fits pl))

@@ -1,0 +1,2 @@
+-- the shape test, test by test
+pub mod Steps
