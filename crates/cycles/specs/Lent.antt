@@ -41,9 +41,9 @@ module _ (crossing sums : List ℕ) where
   unfoldable pub no-way-back-in : ℕ → Bool
   no-way-back-in e = both (leb no-route (at sums e)) (eqb (at crossing e) 1)
 
-  -- number 16
-  unfoldable pub not-above-in : ℕ → ℕ → ℕ → Bool
-  not-above-in modulus q e = both (eqb (at crossing e) 1) (leb modulus (q * at sums e))
+  -- number 16, where each edge has its own sum
+  unfoldable pub not-above-in : ℕ → (ℕ → ℕ) → ℕ → Bool
+  not-above-in modulus own e = both (eqb (at crossing e) 1) (leb modulus (own e * at sums e))
 
   -- what edge e asks of the modulus, in sums of Q
   unfoldable pub asks-in : ℕ → ℕ

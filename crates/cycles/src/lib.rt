@@ -1,5 +1,6 @@
 // Loop sums, tests 13, 14 and 16 over them, and the least modulus.
 use plan::wide;
+use routes::NO_ROUTE;
 ghost use mathlib.Core.Path.{_≡_};
 ghost use Prim.Native.Nat.{_+_, _*_, _<_, _≤_, max};
 ghost use lib.Dec.{eqb};
@@ -11,9 +12,6 @@ ghost use Rattle.loops.specs.Table.{padded};
 ghost use Rattle.routes.specs.Rows.{no-route};
 ghost use Rattle.routes.specs.Relaxing.{Low, EndsInRow};
 ghost use Rattle.cycles.specs.Lent.{loop-sum-in, entered, free-in, closes-free-in, on-free-cycle-in, no-way-back-in, not-above-in, asks-in, most-asked, Known, Small};
-
-// Stands for no route back: a loop sum is lower where there is one.
-const NO_ROUTE: u32 = 100000;
 
 // An edge's tokens and those of a route.
 fn joined(tokens: u16, back: u32) -> u32
@@ -217,7 +215,7 @@ fn not_above_at<'a>(
     e: usize,
 ) -> bool
     requires { ⌜ (e < 512) × (q ≤ 16320) × Small (now sums) ⌝ }
-    ensures { λ r. ⌜ r ≡ not-above-in (now (crossing .entry)) (now (sums .entry)) modulus q e ⌝ }
+    ensures { λ r. ⌜ r ≡ not-above-in (now (crossing .entry)) (now (sums .entry)) modulus (λ d. q) e ⌝ }
 {
     if crossing[e] == 1 {
         modulus <= q * sums[e]
@@ -235,7 +233,7 @@ pub fn first_not_above<'a>(
     q: u32,
 ) -> usize
     requires { ⌜ (edges ≤ 512) × (q ≤ 16320) × Small (now sums) ⌝ }
-    ensures { λ r. ⌜ r ≡ first (not-above-in (now (crossing .entry)) (now (sums .entry)) modulus q) edges ⌝ }
+    ensures { λ r. ⌜ r ≡ first (not-above-in (now (crossing .entry)) (now (sums .entry)) modulus (λ d. q)) edges ⌝ }
 {
     let mut e: usize = 0;
     while e < edges {

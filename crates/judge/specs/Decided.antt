@@ -4,13 +4,17 @@ use mathlib.Core.List.{List, [], _∷_}
 use Prim.Native.Nat.{ℕ}
 use native.Mathlib.Omega.{arith}
 use Rattle.plan.specs.declared.Plan.{Plan}
-use Rattle.plan.specs.Value.{counter-sum}
+use Rattle.plan.specs.Value.{counter-sum, edge-sum}
+use Rattle.plan.specs.Faults.{Fault3}
+use Rattle.plan.specs.Passed.{Passes, counts-test, test-3}
 use Rattle.plan.specs.Chain.{Numbered, NoneOf, Outcome, decides-lowest, decides-if, decides-final}
+use Rattle.plan.specs.Decided.{tables-order, tables-decided}
 use Rattle.plan.specs.Formed.{Tabled}
 use Rattle.judge.specs.declared.Answer.{Answer}
 use Rattle.judge.specs.declared.Answer.the-variants.{Accepted, Refused}
 use Rattle.judge.specs.Faults.{Fault9, Fault10, Fault11, Fault12, Fault13, Fault14, Fault15, Fault16}
-use Rattle.judge.specs.Tests.{refuse-if, refuse-lowest, bad-position, bad-counter, bad-increment, bad-sum, on-free-cycle, no-way-back, not-multiple, not-above-bound, least-modulus, from-13, from-9}
+use Rattle.plan.specs.Tests.{refuse-if, refuse-lowest}
+use Rattle.judge.specs.Tests.{bad-position, bad-counter, bad-increment, bad-sum, on-free-cycle, no-way-back, not-multiple, not-above-bound, least-modulus, from-15-in, from-13-in, from-11-in, from-9, from-5, judged}
 use Rattle.judge.specs.ProcessFaults.{test-9}
 use Rattle.judge.specs.CounterFaults.{test-10, test-11, test-12}
 use Rattle.judge.specs.RouteFaults.{test-13, test-14, test-15, test-16}
@@ -37,7 +41,7 @@ module _ (pl : Plan) where
 
   -- the tests find the first
   pub conditions-decided : Tabled pl → Decided conditions-order (from-9 pl)
-  unfolding from-9 from-13 refuse-lowest refuse-if conditions-order
+  unfolding from-9 from-11-in from-13-in from-15-in least-modulus edge-sum refuse-lowest refuse-if conditions-order
   conditions-decided t =
       decides-lowest _ _ _ _ 9 _ _ (bad-position pl) (pl .nodes) _ (test-9 pl t) (λ n9.
       decides-lowest _ _ _ _ 10 _ _ (bad-counter pl) (pl .counters) _ (test-10 pl t) (λ n10.
@@ -48,6 +52,22 @@ module _ (pl : Plan) where
       decides-if _ _ _ _ 15 _ _ (not-multiple pl) _ (test-15 pl t (q-some pl t n12)) (λ n15.
       decides-lowest _ _ _ _ 16 _ _ (not-above-bound pl) (pl .edges) _ (test-16 pl t n14) (λ n16.
       decides-final _ _ _ _))))))))
+
+  -- the faults of a plan value from 5 on, and all of them: "3 and 5 to 16"
+  unfoldable pub order-from-5 : List Numbered
+  order-from-5 = tables-order pl conditions-order
+
+  unfoldable pub plan-order : List Numbered
+  plan-order = (3, Fault3 pl) ∷ order-from-5
+
+  pub decided-from-5 : Passes (Fault3 pl) → Decided order-from-5 (from-5 pl)
+  unfolding order-from-5 from-5
+  decided-from-5 n3 = tables-decided _ _ _ _ pl conditions-order (from-9 pl) n3 conditions-decided
+
+  -- the judge's answer says which is the first, or that there is none
+  pub judged-decided : Decided plan-order (judged pl)
+  unfolding plan-order judged refuse-if
+  judged-decided = decides-if _ _ _ _ 3 _ _ (counts-test pl) _ (test-3 pl) decided-from-5
 
   -- none of them applies exactly where there is no fault
   pub none-applies : NoneOf conditions-order → NoFault pl

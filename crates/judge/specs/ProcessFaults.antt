@@ -19,7 +19,7 @@ use Rattle.plan.specs.Tests.{process-at}
 use Rattle.plan.specs.Formed.{Tabled}
 use Rattle.plan.specs.Seating.{process-at-lt, ends-after, begins-before, process-at-is, within, has-processes}
 use Rattle.judge.specs.Faults.{ProcessEdge, Fault9}
-use Rattle.rounds.specs.Lent.{is-edge, is-last, next-position, edge-tokens}
+use Rattle.rounds.specs.Lent.{is-edge, is-last, next-position, edge-tokens, lacks-edge}
 use Rattle.judge.specs.Tests.{bad-position}
 
 module _ (pl : Plan) where
@@ -106,7 +106,7 @@ module _ (pl : Plan) where
   module _ (t : Tabled pl) where
     -- a position is bad exactly where fault 9 stands
     pub test-9 : (i : ℕ) → ((i < pl .nodes) × (bad-position pl i ≡ true)) ↔ Fault9 pl i
-    unfolding bad-position
+    unfolding lacks-edge
     test-9 i = (to, from)
       where
         to : (i < pl .nodes) × (bad-position pl i ≡ true) → Fault9 pl i

@@ -21,10 +21,12 @@ use Rattle.plan.specs.Value.{graph-of, Synchronising, counter-sum, edge-sum}
 use Rattle.routes.specs.Rows.{no-route, emptiest-row}
 use Rattle.routes.specs.Emptiest.{row-some, row-emptiest, row-small, row-is}
 use Rattle.plan.specs.Formed.{Tabled, shaped}
-use Rattle.plan.specs.Seating.{synchronises-exactly}
 use Rattle.judge.specs.Conditions.{RouteBack, C0, Multiple, Exceeds, C4}
 use Rattle.judge.specs.Faults.{Fault13, Fault14, Fault15, Fault16}
-use Rattle.judge.specs.Tests.{loop-sum, closes-free, on-free-cycle, no-way-back, not-multiple, not-above-bound}
+use Rattle.seats.specs.Crossing.{crossing-table}
+use Rattle.cycles.specs.Lent.{loop-sum-in, closes-free-in, on-free-cycle-in, no-way-back-in, not-above-in}
+use Rattle.judge.specs.Tests.{loop-sum, sum-table, on-free-cycle, no-way-back, not-multiple, not-above-bound}
+use Rattle.judge.specs.Lent.{crosses-exactly, sum-at}
 
 -- a route of at least one edge, parted before its last
 pub record Ending (G : Graph) (m n : ℕ) (es : List ℕ) : Type 0 where
@@ -91,19 +93,19 @@ module _ (pl : Plan) (t : Tabled pl) where
   first-node e es v r = omega (arith, r .1, t .source-lt e (r .0))
 
   loop-is : (e : ℕ) → loop-sum pl e ≡ at (pl .tokens) e + back e
-  unfolding loop-sum
+  unfolding loop-sum-in
   loop-is e = refl
 
   pub test-13 : (v : ℕ) → ((v < pl .nodes) × (on-free-cycle pl v ≡ true)) ↔ Fault13 pl v
-  unfolding on-free-cycle Fault13 closes-free graph-of graph-of-tables RouteBack Route tokens-on
+  unfolding on-free-cycle-in Fault13 closes-free-in graph-of graph-of-tables RouteBack Route tokens-on
   test-13 v = (to, from)
     where
       to : (v < pl .nodes) × (on-free-cycle pl v ≡ true) → Fault13 pl v
       to h =
-          let s = any-some (closes-free pl v) (pl .edges) (h .1) in
+          let s = any-some (closes-free-in (pl .destination) (sum-table pl) v) (pl .edges) (h .1) in
           let e : ℕ = s .0 in
           let b = both-true _ _ (s .2) in
-          let z : loop-sum pl e ≡ 0 = eqb-true _ _ (b .1) in
+          let z : loop-sum pl e ≡ 0 = sym (sum-at pl t e (s .1)) ∙ eqb-true _ _ (b .1) in
           let i : at (pl .destination) e ≡ v = eqb-true _ _ (b .0) in
           let k = back-emptiest e (s .1) (omega (arith, loop-is e)) in
           let r = k .some in
@@ -131,8 +133,9 @@ module _ (pl : Plan) (t : Tabled pl) where
               subst (λ x. Route (graph-of pl) x (parted .front) (at (pl .source) e)) (sym (parted .there)) (parted .before) in
               let k = back-emptiest e (parted .known) (back-some e (parted .known) .1 (parted .front, front)) in
               let low = k .least (parted .front) front in
-              any-from (closes-free pl v) (pl .edges) e (parted .known)
-              (both-intro _ _ (eq-eqb _ _ (parted .there)) (eq-eqb (loop-sum pl e) 0 (omega (arith, loop-is e, low, z, q, q₂, q₃))))
+              let free : loop-sum pl e ≡ 0 = omega (arith, loop-is e, low, z, q, q₂, q₃) in
+              any-from (closes-free-in (pl .destination) (sum-table pl) v) (pl .edges) e (parted .known)
+              (both-intro _ _ (eq-eqb _ _ (parted .there)) (eq-eqb (at (sum-table pl) e) 0 (sum-at pl t e (parted .known) ∙ free)))
 
   -- an edge's loop is at or above `no-route` exactly where no route leads back
   far-loop : (e : ℕ) → e < pl .edges → (no-route ≤ loop-sum pl e) ↔ (Linked (graph-of pl) (at (pl .destination) e) (at (pl .source) e) → ⊥)
@@ -146,16 +149,20 @@ module _ (pl : Plan) (t : Tabled pl) where
   )
 
   pub test-14 : (e : ℕ) → ((e < pl .edges) × (no-way-back pl e ≡ true)) ↔ Fault14 pl e
-  unfolding no-way-back Fault14
+  unfolding no-way-back-in Fault14
   test-14 e = (to, from)
     where
       to : (e < pl .edges) × (no-way-back pl e ≡ true) → Fault14 pl e
-      to h = let b = both-true _ _ (h .1) in (synchronises-exactly pl t e (h .0) .0 (b .0), far-loop e (h .0) .0 (leb-true _ _ (b .1)))
+      to h =
+          let b = both-true _ _ (h .1) in
+          let far : no-route ≤ loop-sum pl e = omega (arith, leb-true no-route (at (sum-table pl) e) (b .0), sum-at pl t e (h .0)) in
+          (crosses-exactly pl t e (h .0) .0 (b .1), far-loop e (h .0) .0 far)
 
       from : Fault14 pl e → (e < pl .edges) × (no-way-back pl e ≡ true)
       from f =
           let l = f .0 .known in
-          (l, both-intro _ _ (synchronises-exactly pl t e l .1 (f .0)) (le-leb no-route (loop-sum pl e) (far-loop e l .1 (f .1))))
+          let far : no-route ≤ at (sum-table pl) e = omega (arith, far-loop e l .1 (f .1), sum-at pl t e l) in
+          (l, both-intro _ _ (le-leb no-route (at (sum-table pl) e) far) (crosses-exactly pl t e l .1 (f .0)))
 
   -- where no synchronising edge is without a route back, each has an emptiest one, and the loop is that with the edge's tokens
   pub loops-known : ((e : ℕ) → Fault14 pl e → ⊥) → (e : ℕ) → Synchronising pl e → (d : ℕ) × RouteBack pl e d × (loop-sum pl e ≡ at (pl .tokens) e + d)
@@ -171,7 +178,7 @@ module _ (pl : Plan) (t : Tabled pl) where
   loop-known e d l a = omega (arith, loop-is e, back-is e d l a)
 
   pub test-15 : 1 ≤ counter-sum pl 0 → (p : ℕ) → ((p ≡ 0) × (not-multiple pl ≡ true)) ↔ Fault15 pl p
-  unfolding not-multiple Fault15 Multiple
+  unfolding Fault15 Multiple
   test-15 h p = (λ k. (k .0, to (k .1)), λ k. (k .0, from (k .1)))
     where
       to : not (eqb (pl .modulus % counter-sum pl 0) 0) ≡ true → ((m : ℕ) × (pl .modulus ≡ counter-sum pl 0 * m)) → ⊥
@@ -190,23 +197,21 @@ module _ (pl : Plan) (t : Tabled pl) where
       ]
 
   pub test-16 : ((e : ℕ) → Fault14 pl e → ⊥) → (e : ℕ) → ((e < pl .edges) × (not-above-bound pl e ≡ true)) ↔ Fault16 pl e
-  unfolding not-above-bound Fault16
+  unfolding not-above-in Fault16
   test-16 none e = (to, from)
     where
       to : (e < pl .edges) × (not-above-bound pl e ≡ true) → Fault16 pl e
       to h =
           let b = both-true _ _ (h .1) in
-          let y = synchronises-exactly pl t e (h .0) .0 (b .0) in
+          let y = crosses-exactly pl t e (h .0) .0 (b .0) in
           let k = loops-known none e y in
-          (y, (k .0, k .1, subst (λ x. pl .modulus ≤ edge-sum pl e * x) (k .2) (leb-true _ _ (b .1))))
+          (y, (k .0, k .1, subst (λ x. pl .modulus ≤ edge-sum pl e * x) (sum-at pl t e (h .0) ∙ k .2) (leb-true _ _ (b .1))))
 
       from : Fault16 pl e → (e < pl .edges) × (not-above-bound pl e ≡ true)
       from f =
-          let y = f .0 in (
-            y .known,
-            both-intro _ _ (synchronises-exactly pl t e (y .known) .1 y)
-                (le-leb _ _ (subst (λ x. pl .modulus ≤ edge-sum pl e * x) (sym (loop-known e (f .1 .0) (y .known) (f .1 .1))) (f .1 .2))),
-          )
+          let y = f .0 in
+          let same = sum-at pl t e (y .known) ∙ loop-known e (f .1 .0) (y .known) (f .1 .1) in
+          (y .known, both-intro _ _ (crosses-exactly pl t e (y .known) .1 y) (le-leb _ _ (subst (λ x. pl .modulus ≤ edge-sum pl e * x) (sym same) (f .1 .2))))
 
   pub c0-passes : ((v : ℕ) → Fault13 pl v → ⊥) → C0 pl
   unfolding C0 Fault13 EveryCycleHolds

@@ -1,107 +1,107 @@
--- Tests 9 to 16 and the least modulus, as the program works them out.
+-- Tests 9 to 16 in order and the least modulus, as the program works them out. Definitions only.
 -- Assumes nothing.
-use Prim.Native.Nat.{ℕ, suc, _+_, _*_, _%_, max}
+use Prim.Native.Nat.{ℕ, _*_, _%_}
+use mathlib.Core.List.{List}
 use mathlib.Core.Bool.{Bool, not}
-use lib.Dec.{eqb, ltb, leb}
-use Rattle.loops.specs.Choice.{at, if, both, either}
-use Rattle.loops.specs.First.{first}
-use Rattle.loops.specs.Any.{any}
-use Rattle.loops.specs.Fold.{fold}
+use lib.Dec.{eqb}
+use Rattle.loops.specs.Sum.{sum}
+use Rattle.loops.specs.Table.{padded}
 use Rattle.plan.specs.declared.Plan.{Plan}
-use Rattle.plan.specs.Value.{counter-sum, edge-sum}
-use Rattle.plan.specs.Tests.{home, synchronises}
-use Rattle.routes.specs.Rows.{no-route, emptiest-row}
-use Rattle.rounds.specs.Lent.{is-edge, next-position, edge-tokens, has-counter}
+use Rattle.plan.specs.Value.{share, counter-sum, edge-sum}
+use Rattle.plan.specs.Tests.{bad-counts, refuse-lowest, refuse-if, tables-then}
+use Rattle.plan.specs.Seating.{home-table}
+use Rattle.seats.specs.Crossing.{crossing-table}
+use Rattle.rounds.specs.Lent.{lacks-edge, bad-counter-in, bad-increment-in, bad-sum-in}
+use Rattle.cycles.specs.Lent.{loop-sum-in, on-free-cycle-in, no-way-back-in, not-above-in, most-asked}
 use Rattle.judge.specs.declared.Answer.{Answer}
 use Rattle.judge.specs.declared.Answer.the-variants.{Accepted, Refused}
 
--- number 9: no such edge
-unfoldable pub bad-position : Plan → ℕ → Bool
-bad-position pl i =
-    not (any (is-edge (pl .source) (pl .destination) (pl .tokens) (at (pl .order) i)
-    (at (pl .order) (next-position (pl .lengths) (pl .processes) i)) (edge-tokens (pl .lengths) (pl .processes) i)) (pl .edges))
+-- the loop sums of edges as a table, 0 past the count
+abbrev pub sums-of : (source destination tokens : List ℕ) (edges : ℕ) → List ℕ
+sums-of source destination tokens edges = padded (loop-sum-in source destination tokens edges) 512 edges
 
--- number 10: a node of counter c is not in the process of the first such node
-unfoldable pub strays : Plan → ℕ → ℕ → Bool
-strays pl c v = both (has-counter (pl .counter) c v) (not (eqb (home pl v) (home pl (first (has-counter (pl .counter) c) (pl .nodes)))))
+-- counter 0's sum
+abbrev pub counter-0 : (counter increment : List ℕ) (nodes : ℕ) → ℕ
+counter-0 counter increment nodes = sum (share counter increment 0) nodes
 
-unfoldable pub bad-counter : Plan → ℕ → Bool
-bad-counter pl c = any (strays pl c) (pl .nodes)
+module _ (pl : Plan) where
+  -- number 9
+  abbrev pub bad-position : ℕ → Bool
+  bad-position = lacks-edge (pl .source) (pl .destination) (pl .tokens) (pl .edges) (pl .order) (pl .lengths) (pl .processes)
 
--- number 11: a synchronising edge leaves node v, which raises nothing
-unfoldable pub sends : Plan → ℕ → ℕ → Bool
-sends pl v e = both (eqb (at (pl .source) e) v) (synchronises pl e)
+  -- number 10
+  abbrev pub bad-counter : ℕ → Bool
+  bad-counter = bad-counter-in (home-table pl) (pl .counter) (pl .nodes)
 
-unfoldable pub bad-increment : Plan → ℕ → Bool
-bad-increment pl v = both (eqb (at (pl .increment) v) 0) (any (sends pl v) (pl .edges))
+  -- number 11
+  abbrev pub bad-increment : ℕ → Bool
+  bad-increment = bad-increment-in (crossing-table pl) (pl .source) (pl .edges) (pl .increment)
 
--- number 12
-unfoldable pub bad-sum : Plan → ℕ → Bool
-bad-sum pl c = either (eqb (counter-sum pl c) 0) (not (eqb (counter-sum pl c) (counter-sum pl 0)))
+  -- number 12
+  abbrev pub bad-sum : ℕ → Bool
+  bad-sum = bad-sum-in (pl .counter) (pl .increment) (pl .nodes) (counter-sum pl 0)
 
--- the tokens of the emptiest cycle through edge e: its own and those of the emptiest route back
-unfoldable pub loop-sum : Plan → ℕ → ℕ
-loop-sum pl e = at (pl .tokens) e + at (emptiest-row (pl .source) (pl .destination) (pl .tokens) (pl .edges) (at (pl .destination) e)) (at (pl .source) e)
+  -- the tokens of the emptiest cycle through an edge: its own and those of the emptiest route back
+  abbrev pub loop-sum : ℕ → ℕ
+  loop-sum = loop-sum-in (pl .source) (pl .destination) (pl .tokens) (pl .edges)
 
--- number 13: an edge into node v closes a cycle without tokens
-unfoldable pub closes-free : Plan → ℕ → ℕ → Bool
-closes-free pl v e = both (eqb (at (pl .destination) e) v) (eqb (loop-sum pl e) 0)
+  -- those of every edge as a table, 0 past the count
+  abbrev pub sum-table : List ℕ
+  sum-table = sums-of (pl .source) (pl .destination) (pl .tokens) (pl .edges)
 
-unfoldable pub on-free-cycle : Plan → ℕ → Bool
-on-free-cycle pl v = any (closes-free pl v) (pl .edges)
+  -- number 13
+  abbrev pub on-free-cycle : ℕ → Bool
+  on-free-cycle = on-free-cycle-in (pl .destination) sum-table (pl .edges)
 
--- number 14
-unfoldable pub no-way-back : Plan → ℕ → Bool
-no-way-back pl e = both (synchronises pl e) (leb no-route (loop-sum pl e))
+  -- number 14
+  abbrev pub no-way-back : ℕ → Bool
+  no-way-back = no-way-back-in (crossing-table pl) sum-table
 
--- number 15
-unfoldable pub not-multiple : Plan → Bool
-not-multiple pl = not (eqb (pl .modulus % counter-sum pl 0) 0)
+  -- number 15
+  abbrev pub not-multiple : Bool
+  not-multiple = not (eqb (pl .modulus % counter-sum pl 0) 0)
 
--- number 16
-unfoldable pub not-above-bound : Plan → ℕ → Bool
-not-above-bound pl e = both (synchronises pl e) (leb (pl .modulus) (edge-sum pl e * loop-sum pl e))
+  -- number 16
+  abbrev pub not-above-bound : ℕ → Bool
+  not-above-bound = not-above-in (crossing-table pl) sum-table (pl .modulus) (edge-sum pl)
 
--- what edge e asks of the modulus, in sums of Q: more than its loop where it synchronises, else 1
-unfoldable pub asks : Plan → ℕ → ℕ
-asks pl e = if (synchronises pl e) (suc (loop-sum pl e)) 1
+  -- "the least modulus: the smallest N that would pass 15 and 16"
+  unfoldable pub least-modulus : ℕ
+  least-modulus = counter-sum pl 0 * most-asked (crossing-table pl) sum-table (pl .edges)
 
-unfoldable pub least-modulus : Plan → ℕ
-least-modulus pl = counter-sum pl 0 * fold (λ e m. max m (asks pl e)) 1 (pl .edges)
-
--- refused with `number` at the lowest place below `bound` where the test is true; otherwise what comes next
-unfoldable pub refuse-lowest : ℕ → (ℕ → Bool) → ℕ → Answer → Answer
-refuse-lowest number test bound next = if (ltb (first test bound) bound) (Refused number (first test bound)) next
-
--- refused with `number` at place 0 where the test is true; otherwise what comes next
-unfoldable pub refuse-if : ℕ → Bool → Answer → Answer
-refuse-if number test next = if test (Refused number 0) next
-
--- tests 15 and 16, then accepted with Q, N and the least modulus
-abbrev pub from-15 : Plan → Answer
-from-15 pl =
-    refuse-if 15 (not-multiple pl)
-    (refuse-lowest 16 (not-above-bound pl) (pl .edges)
-    (Accepted (counter-sum pl 0) (pl .modulus) (least-modulus pl)))
+-- tests 15 and 16 over the rows of synchronising edges and loop sums, then accepted with Q, N and the least modulus
+unfoldable pub from-15-in : (crossing sums : List ℕ) (edges modulus q : ℕ) → Answer
+from-15-in crossing sums edges modulus q =
+    refuse-if Refused 15 (not (eqb (modulus % q) 0))
+    (refuse-lowest Refused 16 (not-above-in crossing sums modulus (λ e. q)) edges
+    (Accepted q modulus (q * most-asked crossing sums edges)))
 
 -- tests 13 to 16
-unfoldable pub from-13 : Plan → Answer
-from-13 pl =
-    refuse-lowest 13 (on-free-cycle pl) (pl .nodes)
-    (refuse-lowest 14 (no-way-back pl) (pl .edges)
-    (from-15 pl))
+unfoldable pub from-13-in : (crossing sums destination : List ℕ) (nodes edges modulus q : ℕ) → Answer
+from-13-in crossing sums destination nodes edges modulus q =
+    refuse-lowest Refused 13 (on-free-cycle-in destination sums edges) nodes
+    (refuse-lowest Refused 14 (no-way-back-in crossing sums) edges
+    (from-15-in crossing sums edges modulus q))
 
 -- tests 11 to 16
-abbrev pub from-11 : Plan → Answer
-from-11 pl =
-    refuse-lowest 11 (bad-increment pl) (pl .nodes)
-    (refuse-lowest 12 (bad-sum pl) (pl .counters)
-    (from-13 pl))
+unfoldable pub from-11-in : (crossing sums source destination counter increment : List ℕ) (nodes edges counters modulus q : ℕ) → Answer
+from-11-in crossing sums source destination counter increment nodes edges counters modulus q =
+    refuse-lowest Refused 11 (bad-increment-in crossing source edges increment) nodes
+    (refuse-lowest Refused 12 (bad-sum-in counter increment nodes q) counters
+    (from-13-in crossing sums destination nodes edges modulus q))
 
--- tests 10 to 16
-abbrev pub from-10 : Plan → Answer
-from-10 pl = refuse-lowest 10 (bad-counter pl) (pl .counters) (from-11 pl)
-
--- tests 9 to 16 in 01's order
+-- tests 9 to 16 of a plan value
 unfoldable pub from-9 : Plan → Answer
-from-9 pl = refuse-lowest 9 (bad-position pl) (pl .nodes) (from-10 pl)
+from-9 pl =
+    refuse-lowest Refused 9 (bad-position pl) (pl .nodes)
+    (refuse-lowest Refused 10 (bad-counter pl) (pl .counters)
+    (from-11-in (crossing-table pl) (sum-table pl) (pl .source) (pl .destination) (pl .counter) (pl .increment) (pl .nodes) (pl .edges) (pl .counters)
+    (pl .modulus) (counter-sum pl 0)))
+
+-- tests 5 to 16
+unfoldable pub from-5 : Plan → Answer
+from-5 pl = tables-then Refused pl (from-9 pl)
+
+-- what the judge answers of any plan value: tests 3 and 5 to 16 in 01's order; its Q is not looked at
+unfoldable pub judged : Plan → Answer
+judged pl = refuse-if Refused 3 (bad-counts (pl .nodes) (pl .processes) (pl .edges) (pl .counters) (pl .modulus)) (from-5 pl)

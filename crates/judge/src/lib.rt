@@ -1,15 +1,17 @@
-// Tests 9 to 16 over a plan value, in 01's order, and the least modulus.
-use plan::Plan;
+// The judge: tests 3 and 5 to 16 of any plan value in 01's order, over its counts and tables, which are lent; the least modulus.
+use entries::Checked;
 ghost use mathlib.Core.Path.{_≡_};
 ghost use mathlib.Core.Bool.{not};
 ghost use Prim.Native.Nat.{_%_, _<_, _≤_};
 ghost use lib.Dec.{eqb};
-ghost use Rattle.plan.specs.Value.{counter-sum};
+ghost use Rattle.plan.specs.Value.{plan-with};
+ghost use Rattle.plan.specs.Faults.{CountsFit};
 ghost use Rattle.plan.specs.Formed.{Tabled};
-ghost use Rattle.judge.specs.Tests.{from-15, from-13, from-11, from-10, from-9};
-ghost use Rattle.judge.specs.Lent.{sum-table, Crossed};
+ghost use Rattle.cycles.specs.Lent.{Small};
+ghost use Rattle.judge.specs.Tests.{counter-0, sums-of, from-15-in, from-13-in, from-11-in, from-9, from-5, judged};
+ghost use Rattle.judge.specs.Lent.{EdgesOk, CountersOk};
 
-// What the reader answers: Q, N and the least modulus, or a number and a place.
+// What is answered of a plan: Q, N and the least modulus, or a number and a place.
 pub enum Answer {
     Accepted { q: u32, modulus: u32, least: u32 },
     Refused { number: u32, place: u32 },
@@ -35,104 +37,226 @@ fn not_multiple_of(modulus: u32, q: u32) -> bool
 }
 
 // Tests 15 and 16, then accepted with Q, N and the least modulus.
-fn from_15(plan: Plan, crossing: [u8; 512], sums: [u32; 512]) -> Answer
-    requires { ⌜ Crossed plan crossing × (sums ≡ sum-table plan) × (1 ≤ plan .q) ⌝ }
-    ensures { λ r. ⌜ r ≡ from-15 plan ⌝ }
+fn from_15<'a>(
+    crossing: &'a [u8; 512],
+    sums: &'a [u32; 512],
+    edges: usize,
+    modulus: u32,
+    q: u32,
+) -> Answer
+    requires { ⌜ (edges ≤ 512) × (1 ≤ q) × (q ≤ 16320) × Small (now sums) ⌝ }
+    ensures { λ r. ⌜ r ≡ from-15-in (now (crossing .entry)) (now (sums .entry)) edges modulus q ⌝ }
 {
-    let edges = plan.edges as usize;
-    if not_multiple_of(plan.modulus, plan.q) {
+    if not_multiple_of(modulus, q) {
         return refused(15, 0);
     }
-    let low = cycles::first_not_above(&crossing, &sums, edges, plan.modulus, plan.q);
+    let low = cycles::first_not_above(crossing, sums, edges, modulus, q);
     if low < edges {
         return refused(16, low);
     }
     Answer::Accepted {
-        q: plan.q,
-        modulus: plan.modulus,
-        least: cycles::least_modulus(&crossing, &sums, edges, plan.q),
+        q,
+        modulus,
+        least: cycles::least_modulus(crossing, sums, edges, q),
     }
 }
 
-// Tests 13 to 16 in 01's order.
-fn from_13(plan: Plan, crossing: [u8; 512]) -> Answer
-    requires { ⌜ Crossed plan crossing × (1 ≤ plan .q) ⌝ }
-    ensures { λ r. ⌜ r ≡ from-13 plan ⌝ }
+// Tests 13 to 16, with counter 0's sum q.
+fn from_13<'a>(
+    crossing: &'a [u8; 512],
+    source: &'a [u16; 512],
+    destination: &'a [u16; 512],
+    tokens: &'a [u16; 512],
+    nodes: usize,
+    edges: usize,
+    modulus: u32,
+    q: u32,
+) -> Answer
+    requires { ⌜ EdgesOk (now source) (now destination) (now tokens) nodes edges × (1 ≤ q) × (q ≤ 16320) ⌝ }
+    ensures { λ r. ⌜ r ≡ from-13-in (now (crossing .entry)) (sums-of (now (source .entry)) (now (destination .entry)) (now (tokens .entry)) edges) (now (destination .entry)) nodes edges modulus q ⌝ }
 {
-    let nodes = plan.nodes as usize;
-    let edges = plan.edges as usize;
-    let sums = cycles::loop_sums(&plan.source, &plan.destination, &plan.tokens, nodes, edges);
-    let node = cycles::first_on_free_cycle(&plan.destination, &sums, edges, nodes);
+    let sums = cycles::loop_sums(source, destination, tokens, nodes, edges);
+    let node = cycles::first_on_free_cycle(destination, &sums, edges, nodes);
     if node < nodes {
         return refused(13, node);
     }
-    let edge = cycles::first_no_way_back(&crossing, &sums, edges);
+    let edge = cycles::first_no_way_back(crossing, &sums, edges);
     if edge < edges {
         return refused(14, edge);
     }
-    from_15(plan, crossing, sums)
+    from_15(crossing, &sums, edges, modulus, q)
 }
 
-// Tests 11 to 16 in 01's order; `crossing` has 1 for each synchronising edge.
-fn from_11(plan: Plan, crossing: [u8; 512]) -> Answer
-    requires { ⌜ Crossed plan crossing ⌝ }
-    ensures { λ r. ⌜ r ≡ from-11 plan ⌝ }
+// Tests 11 to 16; `crossing` has 1 for each synchronising edge.
+fn from_11<'a>(
+    crossing: &'a [u8; 512],
+    source: &'a [u16; 512],
+    destination: &'a [u16; 512],
+    tokens: &'a [u16; 512],
+    counter: &'a [u16; 64],
+    increment: &'a [u16; 64],
+    nodes: usize,
+    edges: usize,
+    counters: usize,
+    modulus: u32,
+) -> Answer
+    requires { ⌜ EdgesOk (now source) (now destination) (now tokens) nodes edges × CountersOk (now increment) nodes counters ⌝ }
+    ensures { λ r. ⌜ r ≡ from-11-in (now (crossing .entry)) (sums-of (now (source .entry)) (now (destination .entry)) (now (tokens .entry)) edges) (now (source .entry)) (now (destination .entry)) (now (counter .entry)) (now (increment .entry)) nodes edges counters modulus (counter-0 (now (counter .entry)) (now (increment .entry)) nodes) ⌝ }
 {
-    let nodes = plan.nodes as usize;
-    let counters = plan.counters as usize;
-    let edges = plan.edges as usize;
-    let node = rounds::first_bad_increment(&crossing, &plan.source, edges, &plan.increment, nodes);
+    let node = rounds::first_bad_increment(crossing, source, edges, increment, nodes);
     if node < nodes {
         return refused(11, node);
     }
-    let place = rounds::first_bad_sum(&plan.counter, &plan.increment, nodes, plan.q, counters);
+    let q = plan::counter_sum(counter, increment, nodes, 0);
+    let place = rounds::first_bad_sum(counter, increment, nodes, q, counters);
     if place < counters {
         return refused(12, place);
     }
-    from_13(plan, crossing)
-}
-
-// Tests 10 to 16 in 01's order.
-fn from_10(plan: Plan) -> Answer
-    requires { ⌜ Tabled plan × (plan .q ≡ counter-sum plan 0) ⌝ }
-    ensures { λ r. ⌜ r ≡ from-10 plan ⌝ }
-{
-    let nodes = plan.nodes as usize;
-    let counters = plan.counters as usize;
-    let homes = seats::homes(&plan.order, &plan.lengths, nodes, plan.processes as usize);
-    let place = rounds::first_bad_counter(&homes, &plan.counter, nodes, counters);
-    if place < counters {
-        return refused(10, place);
-    }
-    let crossing = seats::crossing_row(
-        &homes,
-        &plan.source,
-        &plan.destination,
-        plan.edges as usize,
-    );
-    from_11(plan, crossing)
-}
-
-// Tests 9 to 16 in 01's order, on a plan value whose tests 3 and 5 to 8 have passed and whose Q is counter 0's sum.
-pub fn judge(plan: Plan) -> Answer
-    requires { ⌜ Tabled plan × (plan .q ≡ counter-sum plan 0) ⌝ }
-    ensures { λ r. ⌜ r ≡ from-9 plan ⌝ }
-{
-    let nodes = plan.nodes as usize;
-    let processes = plan.processes as usize;
-    let edges = plan.edges as usize;
-    let position = rounds::first_bad_position(
-        &plan.source,
-        &plan.destination,
-        &plan.tokens,
+    from_13(
+        crossing,
+        source,
+        destination,
+        tokens,
+        nodes,
         edges,
-        &plan.order,
-        &plan.lengths,
+        modulus,
+        q,
+    )
+}
+
+// Tests 9 to 16 of a plan value whose tests 3 and 5 to 8 have passed.
+fn from_9<'a>(
+    nodes: usize,
+    processes: usize,
+    edges: usize,
+    counters: usize,
+    modulus: u32,
+    lengths: &'a [u16; 64],
+    order: &'a [u16; 64],
+    counter: &'a [u16; 64],
+    increment: &'a [u16; 64],
+    source: &'a [u16; 512],
+    destination: &'a [u16; 512],
+    tokens: &'a [u16; 512],
+) -> Answer
+    requires { ⌜ Tabled (plan-with nodes processes edges counters modulus 0 (now lengths) (now order) (now counter) (now increment) (now source) (now destination) (now tokens)) ⌝ }
+    ensures { λ r. ⌜ r ≡ from-9 (plan-with nodes processes edges counters modulus 0 (now (lengths .entry)) (now (order .entry)) (now (counter .entry)) (now (increment .entry)) (now (source .entry)) (now (destination .entry)) (now (tokens .entry))) ⌝ }
+{
+    let position = rounds::first_bad_position(
+        source,
+        destination,
+        tokens,
+        edges,
+        order,
+        lengths,
         processes,
         nodes,
     );
     if position < nodes {
         return refused(9, position);
     }
-    from_10(plan)
+    let homes = seats::homes(order, lengths, nodes, processes);
+    let place = rounds::first_bad_counter(&homes, counter, nodes, counters);
+    if place < counters {
+        return refused(10, place);
+    }
+    let crossing = seats::crossing_row(&homes, source, destination, edges);
+    from_11(
+        &crossing,
+        source,
+        destination,
+        tokens,
+        counter,
+        increment,
+        nodes,
+        edges,
+        counters,
+        modulus,
+    )
+}
+
+// Tests 5 to 16 of a plan value whose test 3 has passed.
+pub fn from_5<'a>(
+    nodes: usize,
+    processes: usize,
+    edges: usize,
+    counters: usize,
+    modulus: u32,
+    lengths: &'a [u16; 64],
+    order: &'a [u16; 64],
+    counter: &'a [u16; 64],
+    increment: &'a [u16; 64],
+    source: &'a [u16; 512],
+    destination: &'a [u16; 512],
+    tokens: &'a [u16; 512],
+) -> Answer
+    requires { ⌜ CountsFit (plan-with nodes processes edges counters modulus 0 (now lengths) (now order) (now counter) (now increment) (now source) (now destination) (now tokens)) ⌝ }
+    ensures { λ r. ⌜ r ≡ from-5 (plan-with nodes processes edges counters modulus 0 (now (lengths .entry)) (now (order .entry)) (now (counter .entry)) (now (increment .entry)) (now (source .entry)) (now (destination .entry)) (now (tokens .entry))) ⌝ }
+{
+    let checked = entries::tables(
+        nodes,
+        processes,
+        edges,
+        counters,
+        lengths,
+        order,
+        counter,
+        increment,
+        source,
+        destination,
+        tokens,
+    );
+    match checked {
+        Checked::Refused { number, place } => Answer::Refused { number, place },
+        Checked::Passed => from_9(
+            nodes,
+            processes,
+            edges,
+            counters,
+            modulus,
+            lengths,
+            order,
+            counter,
+            increment,
+            source,
+            destination,
+            tokens,
+        ),
+    }
+}
+
+// The judge of any plan value: tests 3 and 5 to 16 in 01's order. Its Q is not looked at.
+pub fn judge<'a>(
+    nodes: u16,
+    processes: u16,
+    edges: u16,
+    counters: u16,
+    modulus: u32,
+    lengths: &'a [u16; 64],
+    order: &'a [u16; 64],
+    counter: &'a [u16; 64],
+    increment: &'a [u16; 64],
+    source: &'a [u16; 512],
+    destination: &'a [u16; 512],
+    tokens: &'a [u16; 512],
+) -> Answer
+    ensures { λ r. ⌜ r ≡ judged (plan-with nodes processes edges counters modulus 0 (now (lengths .entry)) (now (order .entry)) (now (counter .entry)) (now (increment .entry)) (now (source .entry)) (now (destination .entry)) (now (tokens .entry))) ⌝ }
+{
+    if entries::counts_bad(nodes, processes, edges, counters, modulus) {
+        return refused(3, 0);
+    }
+    from_5(
+        nodes as usize,
+        processes as usize,
+        edges as usize,
+        counters as usize,
+        modulus,
+        lengths,
+        order,
+        counter,
+        increment,
+        source,
+        destination,
+        tokens,
+    )
 }

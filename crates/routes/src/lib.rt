@@ -4,8 +4,8 @@ ghost use Prim.Native.Nat.{_+_, _<_, _≤_, min};
 ghost use Rattle.routes.specs.Rows.{no-route, total, round, emptiest-row};
 ghost use Rattle.routes.specs.Relaxing.{Low, EndsInRow};
 
-// Stands for no route: 64 edges of 1,000 tokens hold fewer.
-const NO_ROUTE: u32 = 100000;
+// Stands for no route: the tokens of an emptiest route are fewer.
+pub const NO_ROUTE: u32 = 100000;
 
 // A row after a round, and by how much the sum of its entries has fallen.
 pub struct Round {

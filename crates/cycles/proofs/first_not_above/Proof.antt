@@ -7,7 +7,7 @@ use Rattle.cycles.proofs.first_not_above.Statement.{statement}
 use Rattle.cycles.proofs.first_not_above.Tie as tie
 
 abbrev Inv-loop : tie.InvT-loop
-Inv-loop crossing sums edges modulus q e₀ e = First (not-above-in crossing sums modulus q) edges e
+Inv-loop crossing sums edges modulus q e₀ e = First (not-above-in crossing sums modulus (λ d. q)) edges e
 
 abbrev μ-loop : tie.MeasureT-loop
 μ-loop crossing sums edges modulus q e₀ e = edges - e

@@ -1,60 +1,68 @@
 -- `judge::from_11` meets its contract. Q is at least 1 once test 12 has passed. Assumes nothing.
 use borrow.Author.Needs.{needs}
 use native.Mathlib.Omega.{arith}
-use mathlib.Core.Path.{_≡_}
-use Rattle.loops.specs.First.{first}
-use Rattle.judge.specs.Tests.{bad-increment, bad-sum}
-use Rattle.judge.specs.Reading.{q-some, lowest-11, lowest-12}
-use Rattle.judge.specs.Refusing.{refused-here, passed-here}
+use Prim.Native.Nat.{ℕ}
+use mathlib.Core.Path.{_≡_, ap, _∙_}
+use Rattle.plan.specs.Refusing.{refused-here, passed-here}
+use Rattle.judge.specs.declared.Answer.{Answer}
+use Rattle.judge.specs.Tests.{sums-of, counter-0, from-11-in}
+use Rattle.judge.specs.Lent.{sum-most, sum-some}
 use Rattle.judge.proofs.from_11.Statement.{statement}
 use Rattle.judge.proofs.from_11.Tie as tie
 
--- where test 11 has passed, and where the function begins
-abbrev past-11 : tie.After-first-bad-sum → tie.Else1
-past-11 c = c .before .before .before .before
+-- the answer with a sum
+abbrev with-sum : (c : tie.Start) → ℕ → Answer
+with-sum c q =
+    from-11-in (c .args .crossing .now) (sums-of (c .args .source .now) (c .args .destination .now) (c .args .tokens .now) (c .args .edges)) (c .args .source .now)
+    (c .args .destination .now) (c .args .counter .now) (c .args .increment .now) (c .args .nodes) (c .args .edges) (c .args .counters) (c .args .modulus) q
 
-abbrev start : tie.After-first-bad-increment → tie.Start
-start c = c .before .before .before .before .before
-
--- what each test found
-is-11 : (c : tie.After-first-bad-increment) → let pl = start c .args .t1 in c .first-bad-increment .result ≡ first (bad-increment pl) (pl .nodes)
-is-11 c = let h = start c .pre in lowest-11 _ (h .tabled) _ (h .crossing-is) (c .first-bad-increment .ensures)
-
-is-12 : (c : tie.After-first-bad-sum) → let pl = start (past-11 c .before) .args .t1 in c .first-bad-sum .result ≡ first (bad-sum pl) (pl .counters)
-is-12 c = let h = start (past-11 c .before) .pre in lowest-12 _ (h .tabled) (h .q-is) (c .first-bad-sum .ensures)
+-- the sum that was worked out is counter 0's
+over : (c : tie.After-counter-sum) (r : Answer) → r ≡ with-sum (c .before .before .before) (c .counter-sum .result)
+    → r ≡ with-sum (c .before .before .before) (counter-0 (c .before .before .before .args .counter .now) (c .before .before .before .args .increment .now) (c .before .before .before .args .nodes))
+over c r e = e ∙ ap (with-sum (c .before .before .before)) (c .counter-sum .ensures)
 
 returns : tie.Need-returns
-returns c = refused-here _ _ _ _ _ _ (c .refused .ensures) (is-11 (c .before .before)) (c .before .if1 .taken)
+unfolding from-11-in
+returns c = refused-here _ _ _ _ _ _ _ (c .refused .ensures) (c .before .before .first-bad-increment .ensures) (c .before .if1 .taken)
 
 returns-2 : tie.Need-returns-2
+unfolding from-11-in
 returns-2 c =
     let f = c .before .before in
-    let p = past-11 f in
-    passed-here _ _ _ _ _ _ (is-11 (p .before)) (p .if1 .left)
-    (refused-here _ _ _ _ _ _ (c .refused2 .ensures) (is-12 f) (c .before .if2 .taken))
+    let s = f .before in
+    let p = s .before in
+    over s _ (passed-here _ _ _ _ _ _ _ (p .before .first-bad-increment .ensures) (p .if1 .left)
+    (refused-here _ _ _ _ _ _ _ (c .refused2 .ensures) (f .first-bad-sum .ensures) (c .before .if2 .taken)))
 
 from-13-requires : tie.Need-from-13-requires
 from-13-requires c κs =
-    let h = start (past-11 (c .before) .before) .pre in
-    (h, q-some _ (h .tabled) (h .q-is) (omega (arith, is-12 (c .before), c .if2 .left)))
+    let f = c .before in
+    let s = f .before in
+    let g = s .before .before .before in (
+      g .pre .0,
+      sum-some (g .args .counter .now) (g .args .increment .now) (g .args .nodes) (g .args .counters) (g .pre .1) (s .counter-sum .ensures)
+          (omega (arith, f .first-bad-sum .ensures, c .if2 .left)),
+      sum-most (g .args .counter .now) (g .args .increment .now) (g .args .nodes) (g .args .counters) 0 (g .pre .1) (g .pre .0 .nodes-most) (s .counter-sum .ensures),
+    )
 
 returns-3 : tie.Need-returns-3
+unfolding from-11-in
 returns-3 c =
-    let f = c .before .before in
-    let p = past-11 f in
-    passed-here _ _ _ _ _ _ (is-11 (p .before)) (p .if1 .left)
-    (passed-here _ _ _ _ _ _ (is-12 f) (c .before .if2 .left) (c .from-13 .ensures))
+    let e = c .before in
+    let f = e .before in
+    let s = f .before in
+    let p = s .before in
+    over s _ (passed-here _ _ _ _ _ _ _ (p .before .first-bad-increment .ensures) (p .if1 .left)
+    (passed-here _ _ _ _ _ _ _ (f .first-bad-sum .ensures) (e .if2 .left) (c .from-13 .ensures)))
 
 pub from-11-spec : {M : Type 1} → statement M
 from-11-spec =
     tie.close
     (tie.spec
-    (λ c. search needs)
-    (λ c. search needs)
-    (λ c. search needs)
     (λ c κs. search needs)
     (λ c κs. search needs)
     returns
+    (λ c κs. search needs)
     (λ c κs. search needs)
     (λ c κs. search needs)
     returns-2

@@ -1,38 +1,32 @@
 -- `judge::judge` meets its contract. Assumes nothing.
 use borrow.Author.Needs.{needs}
-use mathlib.Core.Path.{_≡_}
-use Rattle.loops.specs.First.{first}
-use Rattle.judge.specs.Tests.{bad-position, from-9}
-use Rattle.judge.specs.Reading.{lowest-9}
-use Rattle.judge.specs.Refusing.{refused-here, passed-here}
+use mathlib.Core.Path.{sym, _∙_}
+use Rattle.plan.specs.declared.Plan.{Plan}
+use Rattle.plan.specs.Value.{plan-with}
+use Rattle.plan.specs.Passed.{counts-fit}
+use Rattle.plan.specs.Refusing.{refused-if, passed-if}
+use Rattle.judge.specs.Tests.{judged}
 use Rattle.judge.proofs.judge.Statement.{statement}
 use Rattle.judge.proofs.judge.Tie as tie
 
--- where the function begins
-abbrev start : tie.After-first-bad-position → tie.Start
-start c = c .before .before .before .before .before .before .before
-
--- what the test found
-is-9 : (c : tie.After-first-bad-position) → let pl = start c .args .t1 in c .first-bad-position .result ≡ first (bad-position pl) (pl .nodes)
-is-9 c = lowest-9 _ (start c .pre .0) (c .first-bad-position .ensures)
+-- the plan value that is lent
+abbrev lent : tie.Start → Plan
+lent s =
+    plan-with (s .args .nodes) (s .args .processes) (s .args .edges) (s .args .counters) (s .args .modulus) 0 (s .args .lengths .now) (s .args .order .now)
+    (s .args .counter .now) (s .args .increment .now) (s .args .source .now) (s .args .destination .now) (s .args .tokens .now)
 
 returns : tie.Need-returns
-unfolding from-9
-returns c = refused-here _ _ _ _ _ _ (c .refused .ensures) (is-9 (c .before .before)) (c .before .if1 .taken)
+unfolding judged
+returns c = refused-if _ _ _ _ _ (c .refused .ensures) (sym (c .before .before .counts-bad .ensures) ∙ c .before .if1 .taken)
+
+from-5-requires : tie.Need-from-5-requires
+from-5-requires c κs = counts-fit (lent (c .before .before)) (sym (c .before .counts-bad .ensures) ∙ c .if1 .left)
 
 returns-2 : tie.Need-returns-2
-unfolding from-9
-returns-2 c = passed-here _ _ _ _ _ _ (is-9 (c .before .before)) (c .before .if1 .left) (c .from-10 .ensures)
+unfolding judged
+returns-2 c = let e = c .before in passed-if _ _ _ _ _ (sym (e .before .counts-bad .ensures) ∙ e .if1 .left) (c .from-5 .ensures)
 
 pub judge-spec : {M : Type 1} → statement M
 judge-spec =
     tie.close
-    (tie.spec
-    (λ c. search needs)
-    (λ c. search needs)
-    (λ c. search needs)
-    (λ c κs. search needs)
-    (λ c κs. search needs)
-    returns
-    (λ c κs. search needs)
-    returns-2)
+    (tie.spec (λ c κs. search needs) (λ c κs. search needs) returns from-5-requires returns-2)
