@@ -14,7 +14,7 @@ use Rattle.judge.specs.declared.Answer.the-variants.{Refused}
 use Rattle.judge.specs.Sound.{Upheld}
 use Rattle.reader.specs.declared.Reading.{Reading}
 use Rattle.image.specs.Image.{plan-of}
-use Rattle.plan.specs.Chain.{FirstFault}
+use Rattle.plan.specs.Order.{FirstFault}
 use Rattle.reader.specs.Faults.{image-order}
 use Rattle.reader.specs.Layout.{Layout}
 use Rattle.reader.specs.Tests.{verdict, no-plan, reading-of}

@@ -10,9 +10,12 @@ use Rattle.plan.specs.declared.Plan.{Plan}
 use Rattle.plan.specs.Faults.{CountsFit, Fault3}
 use Rattle.plan.specs.Tests.{refuse-lowest, order-then, tables-then}
 use Rattle.plan.specs.Passed.{passes-3, counts-pass}
-use Rattle.plan.specs.Formed.{Tabled, tabled}
-use Rattle.plan.specs.Chain.{NoneOf, Outcome, decides-final}
-use Rattle.plan.specs.Decided.{tables-order, tables-decided}
+use Rattle.plan.specs.Tables.{Tabled}
+use Rattle.plan.specs.Formed.{tabled}
+use Rattle.plan.specs.Order.{NoneOf}
+use Rattle.plan.specs.Chain.{Outcome, decides-final}
+use Rattle.plan.specs.Faults.{tables-order}
+use Rattle.plan.specs.Decided.{tables-decided}
 use Rattle.entries.specs.declared.Checked.{Checked}
 use Rattle.entries.specs.declared.Checked.the-variants.{Passed, Refused}
 use Rattle.entries.specs.Answer.{tables-answer, after-tables}

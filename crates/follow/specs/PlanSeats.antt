@@ -14,7 +14,8 @@ use Rattle.net.specs.Seating.{seats-of}
 use Rattle.plan.specs.declared.Plan.{Plan}
 use Rattle.plan.specs.Value.{graph-of, node-at, HasProcesses, Sits, InProcess, Synchronising, share, counter-sum, edge-sum}
 use Rattle.plan.specs.Tests.{home, seat}
-use Rattle.plan.specs.Formed.{Tabled, formed, shaped as ends-are-nodes}
+use Rattle.plan.specs.Tables.{Tabled}
+use Rattle.plan.specs.Formed.{formed, shaped as ends-are-nodes}
 use Rattle.plan.specs.Seating.{sits-unique}
 use Rattle.judge.specs.Conditions.{RouteBack, C0, C1, C2, C3, C4, Multiple, Exceeds}
 use Rattle.judge.specs.Sound.{Sound}
@@ -51,12 +52,12 @@ module _ (pl : Plan) (sound : Sound pl) where
   -- every cycle holds a token
   pub every-cycle-holds : EveryCycleHolds (graph-of pl) (graph-of pl .tokens)
   unfolding C0
-  every-cycle-holds = sound .c0
+  every-cycle-holds = sound .upheld .c0
 
   -- the process and the seat of each node
   unfoldable pub seats : Seats (graph-of pl)
   unfolding HasProcesses
-  seats = seats-of (graph-of pl) (pl .processes) (at (pl .lengths)) (node-at pl) (sound .processes)
+  seats = seats-of (graph-of pl) (pl .processes) (at (pl .lengths)) (node-at pl) (sound .upheld .processes)
 
   -- where a node sits
   pub sits : (v : ℕ) → v < graph-of pl .nodes → Sits pl v (seats .home v) (seats .seat v)
@@ -95,7 +96,7 @@ module _ (pl : Plan) (sound : Sound pl) where
   -- the sum at an edge is that of either end's counter
   pub sum-at-end : (e v : ℕ) → v < graph-of pl .nodes → counter-sum pl (at (pl .counter) v) ≡ edge-sum pl e
   unfolding C3 edge-sum graph-of graph-of-tables
-  sum-at-end e v h = sound .c3 (at (pl .counter) v) (tables .counter-lt v h) .0
+  sum-at-end e v h = sound .upheld .c3 (at (pl .counter) v) (tables .counter-lt v h) .0
 
   -- the plan's counters
   unfoldable pub counters : Counters (graph-of pl) seats
@@ -109,12 +110,12 @@ module _ (pl : Plan) (sound : Sound pl) where
         n = pl .modulus;
         counter-lt = tables .counter-lt;
         share-other = share-none pl;
-        c1 = λ u v hu hv e. sound .c1 u v hu hv e (seats .home u) (seats .home v) (seats .seat u, sits u hu) (seats .seat v, sits v hv);
-        c2 = λ e h d. subst (0 <_) (sym (share-own pl (at (pl .source) e))) (sound .c2 e (synchronising e h d));
-        c3 = λ v h. (refl, sound .c3 (at (pl .counter) v) (tables .counter-lt v h) .1);
+        c1 = λ u v hu hv e. sound .upheld .c1 u v hu hv e (seats .home u) (seats .home v) (seats .seat u, sits u hu) (seats .seat v, sits v hv);
+        c2 = λ e h d. subst (0 <_) (sym (share-own pl (at (pl .source) e))) (sound .upheld .c2 e (synchronising e h d));
+        c3 = λ v h. (refl, sound .upheld .c3 (at (pl .counter) v) (tables .counter-lt v h) .1);
         same-total = λ e h d. sum-at-end e (at (pl .source) e) (tables .source-lt e h) ∙ sym (sum-at-end e (at (pl .destination) e) (tables .destination-lt e h));
-        divides = λ v h. (sound .c4 .0 .0, sound .c4 .0 .1 ∙ ap (_* sound .c4 .0 .0) (sym (sum-at-end 0 v h)));
+        divides = λ v h. (sound .upheld .c4 .0 .0, sound .upheld .c4 .0 .1 ∙ ap (_* sound .upheld .c4 .0 .0) (sym (sum-at-end 0 v h)));
         c4 = λ e h d.
-            let r = sound .c4 .1 e (synchronising e h d) in
+            let r = sound .upheld .c4 .1 e (synchronising e h d) in
             (r .0, r .1, subst (λ q. q * (at (pl .tokens) e + r .0) < pl .modulus) (sym (sum-at-end e (at (pl .destination) e) (tables .destination-lt e h))) (r .2));
       }

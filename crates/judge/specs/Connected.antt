@@ -14,7 +14,7 @@ use Rattle.net.specs.ProcessEdges.{ride}
 use Rattle.net.specs.Tables.{graph-of-tables}
 use Rattle.plan.specs.declared.Plan.{Plan}
 use Rattle.plan.specs.Value.{graph-of, node-at, HasProcesses, InProcess}
-use Rattle.plan.specs.Formed.{Tabled}
+use Rattle.plan.specs.Tables.{Tabled}
 use Rattle.judge.specs.Conditions.{RouteBack, Exceeds, C4}
 use Rattle.judge.specs.Sound.{Upheld}
 

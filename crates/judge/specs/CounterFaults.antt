@@ -15,11 +15,11 @@ use Rattle.net.specs.Tables.{graph-of-tables}
 use Rattle.plan.specs.declared.Plan.{Plan}
 use Rattle.plan.specs.Value.{graph-of, InProcess, Synchronising, counter-sum}
 use Rattle.plan.specs.Tests.{home, seat}
-use Rattle.plan.specs.Formed.{Tabled}
+use Rattle.plan.specs.Tables.{Tabled}
 use Rattle.plan.specs.Seating.{sits, sits-unique}
 use Rattle.judge.specs.Conditions.{C1, C2, C3}
 use Rattle.judge.specs.Faults.{Fault10, Fault11, Fault12}
-use Rattle.plan.specs.Seating.{home-table}
+use Rattle.plan.specs.Tests.{home-table}
 use Rattle.seats.specs.Crossing.{crossing-table}
 use Rattle.rounds.specs.Lent.{has-counter, strays-in, bad-counter-in, sends-in, bad-increment-in, bad-sum-in}
 use Rattle.judge.specs.Tests.{bad-counter, bad-increment, bad-sum}

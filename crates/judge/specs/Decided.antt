@@ -1,24 +1,30 @@
--- The order of 01's numbers from 9 on, and that the tests decide by it. Assumes nothing.
+-- The tests of a plan value decide by the order of 01's numbers. Assumes nothing.
 use mathlib.Core.Path.{_≡_}
 use mathlib.Core.List.{List, [], _∷_}
-use Prim.Native.Nat.{ℕ}
+use mathlib.Core.Logic.{_↔_}
+use Prim.Native.Nat.{ℕ, _≤_}
 use native.Mathlib.Omega.{arith}
 use Rattle.plan.specs.declared.Plan.{Plan}
 use Rattle.plan.specs.Value.{counter-sum, edge-sum}
-use Rattle.plan.specs.Faults.{Fault3}
-use Rattle.plan.specs.Passed.{Passes, counts-test, test-3}
-use Rattle.plan.specs.Chain.{Numbered, NoneOf, Outcome, decides-lowest, decides-if, decides-final}
-use Rattle.plan.specs.Decided.{tables-order, tables-decided}
-use Rattle.plan.specs.Formed.{Tabled}
+use Rattle.plan.specs.Faults.{Fault3, tables-order}
+use Rattle.plan.specs.Formed.{tabled, none-3, none-5, none-6, none-7, none-8}
+use Rattle.plan.specs.Order.{Passes}
+use Rattle.plan.specs.Passed.{counts-test, test-3}
+use Rattle.plan.specs.Order.{Numbered, NoneOf}
+use Rattle.plan.specs.Chain.{EachNumber, Outcome, decides-lowest, decides-if, decides-final}
+use Rattle.plan.specs.Faults.{tables-order}
+use Rattle.plan.specs.Decided.{tables-decided}
+use Rattle.plan.specs.Tables.{Tabled}
 use Rattle.judge.specs.declared.Answer.{Answer}
 use Rattle.judge.specs.declared.Answer.the-variants.{Accepted, Refused}
-use Rattle.judge.specs.Faults.{Fault9, Fault10, Fault11, Fault12, Fault13, Fault14, Fault15, Fault16}
+use Rattle.judge.specs.Faults.{conditions-order, order-from-5, plan-order}
 use Rattle.plan.specs.Tests.{refuse-if, refuse-lowest}
 use Rattle.judge.specs.Tests.{bad-position, bad-counter, bad-increment, bad-sum, on-free-cycle, no-way-back, not-multiple, not-above-bound, least-modulus, from-15-in, from-13-in, from-11-in, from-9, from-5, judged}
 use Rattle.judge.specs.ProcessFaults.{test-9}
 use Rattle.judge.specs.CounterFaults.{test-10, test-11, test-12}
 use Rattle.judge.specs.RouteFaults.{test-13, test-14, test-15, test-16}
-use Rattle.judge.specs.Exactly.{NoFault, q-some}
+use Rattle.judge.specs.Exactly.{NoFault, q-some, conditions-exactly}
+use Rattle.judge.specs.Sound.{Upheld}
 
 pub refused-one : (k p k′ p′ : ℕ) → Refused k p ≡ Refused k′ p′ → (k ≡ k′) × (p ≡ p′)
 refused-one k p k′ p′ e = (cc, cc)
@@ -31,16 +37,11 @@ module _ (pl : Plan) where
   abbrev pub accepted : Answer
   accepted = Accepted (counter-sum pl 0) (pl .modulus) (least-modulus pl)
 
-  -- the faults of a plan value's conditions in the order of their tests
-  unfoldable pub conditions-order : List Numbered
-  conditions-order =
-      (9, Fault9 pl) ∷ (10, Fault10 pl) ∷ (11, Fault11 pl) ∷ (12, Fault12 pl) ∷ (13, Fault13 pl) ∷ (14, Fault14 pl) ∷ (15, Fault15 pl) ∷ (16, Fault16 pl) ∷ []
-
   abbrev pub Decided : List Numbered → Answer → Type 0
   Decided = Outcome Refused accepted refused-one (λ k p. not-accepted k p (counter-sum pl 0) (pl .modulus) (least-modulus pl))
 
   -- the tests find the first
-  pub conditions-decided : Tabled pl → Decided conditions-order (from-9 pl)
+  pub conditions-decided : Tabled pl → Decided (conditions-order pl) (from-9 pl)
   unfolding from-9 from-11-in from-13-in from-15-in least-modulus edge-sum refuse-lowest refuse-if conditions-order
   conditions-decided t =
       decides-lowest _ _ _ _ 9 _ _ (bad-position pl) (pl .nodes) _ (test-9 pl t) (λ n9.
@@ -53,24 +54,17 @@ module _ (pl : Plan) where
       decides-lowest _ _ _ _ 16 _ _ (not-above-bound pl) (pl .edges) _ (test-16 pl t n14) (λ n16.
       decides-final _ _ _ _))))))))
 
-  -- the faults of a plan value from 5 on, and all of them: "3 and 5 to 16"
-  unfoldable pub order-from-5 : List Numbered
-  order-from-5 = tables-order pl conditions-order
-
-  unfoldable pub plan-order : List Numbered
-  plan-order = (3, Fault3 pl) ∷ order-from-5
-
-  pub decided-from-5 : Passes (Fault3 pl) → Decided order-from-5 (from-5 pl)
+  pub decided-from-5 : Passes (Fault3 pl) → Decided (order-from-5 pl) (from-5 pl)
   unfolding order-from-5 from-5
-  decided-from-5 n3 = tables-decided _ _ _ _ pl conditions-order (from-9 pl) n3 conditions-decided
+  decided-from-5 n3 = tables-decided _ _ _ _ pl (conditions-order pl) (from-9 pl) n3 conditions-decided
 
   -- the judge's answer says which is the first, or that there is none
-  pub judged-decided : Decided plan-order (judged pl)
+  pub judged-decided : Decided (plan-order pl) (judged pl)
   unfolding plan-order judged refuse-if
   judged-decided = decides-if _ _ _ _ 3 _ _ (counts-test pl) _ (test-3 pl) decided-from-5
 
   -- none of them applies exactly where there is no fault
-  pub none-applies : NoneOf conditions-order → NoFault pl
+  pub none-applies : NoneOf (conditions-order pl) → NoFault pl
   unfolding NoneOf conditions-order
   none-applies n =
       record {
@@ -84,6 +78,27 @@ module _ (pl : Plan) where
         none-16 = n .1 .1 .1 .1 .1 .1 .1 .0;
       }
 
-  pub none-applies-back : NoFault pl → NoneOf conditions-order
+  pub none-applies-back : NoFault pl → NoneOf (conditions-order pl)
   unfolding NoneOf conditions-order
   none-applies-back f = (f .none-9, (f .none-10, (f .none-11, (f .none-12, (f .none-13, (f .none-14, (f .none-15, (f .none-16, tt))))))))
+
+  -- nor of the faults from 5 on, or of all: exactly where the tables hold what they should, the plan has its processes and C0 to C4 hold
+  pub clean-exactly : NoneOf (plan-order pl) ↔ (Tabled pl × Upheld pl)
+  unfolding NoneOf plan-order order-from-5 tables-order
+  clean-exactly = (
+    λ n.
+        let t = tabled pl (n .0) (n .1 .0) (n .1 .1 .0) (n .1 .1 .1 .0) (n .1 .1 .1 .1 .0) in
+        (t, conditions-exactly pl t .0 (none-applies (n .1 .1 .1 .1 .1))),
+    λ h.
+        let t = h .0 in
+        (none-3 pl t, (none-5 pl t, (none-6 pl t, (none-7 pl t, (none-8 pl t, none-applies-back (conditions-exactly pl t .1 (h .1))))))),
+  )
+
+  -- what holds of every number of the list holds of the first that applies: each is 3, or from 5 to 16
+  pub each-number : EachNumber (λ k. (3 ≤ k) × (k ≤ 16)) (plan-order pl)
+  unfolding EachNumber plan-order order-from-5 tables-order conditions-order
+  each-number =
+      let in-bounds : (k : ℕ) → 3 ≤ k → k ≤ 16 → (3 ≤ k) × (k ≤ 16) = λ k l h. (l, h) in (
+        in-bounds 3 (omega arith) (omega arith),
+        (in-bounds 5 (omega arith) (omega arith), (in-bounds 6 (omega arith) (omega arith), (in-bounds 7 (omega arith) (omega arith), (in-bounds 8 (omega arith) (omega arith), (in-bounds 9 (omega arith) (omega arith), (in-bounds 10 (omega arith) (omega arith), (in-bounds 11 (omega arith) (omega arith), (in-bounds 12 (omega arith) (omega arith), (in-bounds 13 (omega arith) (omega arith), (in-bounds 14 (omega arith) (omega arith), (in-bounds 15 (omega arith) (omega arith), (in-bounds 16 (omega arith) (omega arith), tt)))))))))))),
+      )

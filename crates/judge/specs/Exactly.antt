@@ -4,7 +4,7 @@ use mathlib.Core.Logic.{_↔_}
 use Prim.Native.Nat.{ℕ, _≤_}
 use Rattle.plan.specs.declared.Plan.{Plan}
 use Rattle.plan.specs.Value.{counter-sum}
-use Rattle.plan.specs.Formed.{Tabled}
+use Rattle.plan.specs.Tables.{Tabled}
 use Rattle.judge.specs.Conditions.{C3, C4}
 use Rattle.judge.specs.Sound.{Upheld}
 use Rattle.judge.specs.Faults.{Fault9, Fault10, Fault11, Fault12, Fault13, Fault14, Fault15, Fault16}

@@ -1,13 +1,15 @@
 -- The faults 9 to 16 of 01's table, each at its place, in 01's words. Definitions only.
 -- Assumes nothing.
 use mathlib.Core.Path.{_≡_}
-use mathlib.Core.List.{List}
+use mathlib.Core.List.{List, [], _∷_}
 use mathlib.Core.Logic.{_⊎_, _≢_}
 use Prim.Native.Nat.{ℕ, suc, _+_, _*_, _≤_, _<_}
 use Rattle.loops.specs.Choice.{at}
 use Rattle.net.specs.Graph.{Linked, Cycle, tokens-on}
 use Rattle.net.specs.Processes.{Edge}
 use Rattle.plan.specs.declared.Plan.{Plan}
+use Rattle.plan.specs.Order.{Numbered}
+use Rattle.plan.specs.Faults.{Fault3, tables-order}
 use Rattle.plan.specs.Value.{graph-of, base, node-at, InProcess, Synchronising, counter-sum, edge-sum}
 use Rattle.judge.specs.Conditions.{RouteBack, Multiple}
 
@@ -64,3 +66,16 @@ module _ (pl : Plan) where
   -- 16: "N not above the bound", place "edge"
   unfoldable pub Fault16 : ℕ → Type 0
   Fault16 place = Synchronising pl place × ((d : ℕ) × RouteBack pl place d × (pl .modulus ≤ edge-sum pl place * (at (pl .tokens) place + d)))
+
+  -- the faults 9 to 16 in the order of their tests
+  unfoldable pub conditions-order : List Numbered
+  conditions-order =
+      (9, Fault9) ∷ (10, Fault10) ∷ (11, Fault11) ∷ (12, Fault12) ∷ (13, Fault13) ∷ (14, Fault14) ∷ (15, Fault15) ∷ (16, Fault16) ∷ []
+
+  -- those of a plan value from 5 on
+  unfoldable pub order-from-5 : List Numbered
+  order-from-5 = tables-order pl conditions-order
+
+  -- all of a plan value's: the one list by which it is turned down
+  unfoldable pub plan-order : List Numbered
+  plan-order = (3, Fault3 pl) ∷ order-from-5

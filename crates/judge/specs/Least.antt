@@ -12,7 +12,7 @@ use Rattle.loops.specs.Choice.{at, if-true, if-false, true-or-false, not-true}
 use Rattle.loops.specs.Fold.{fold}
 use Rattle.plan.specs.declared.Plan.{Plan}
 use Rattle.plan.specs.Value.{Synchronising, counter-sum, edge-sum}
-use Rattle.plan.specs.Formed.{Tabled}
+use Rattle.plan.specs.Tables.{Tabled}
 use Rattle.judge.specs.Conditions.{Multiple, Exceeds, LeastModulus}
 use Rattle.judge.specs.Faults.{Fault14}
 use Rattle.seats.specs.Crossing.{crossing-table}

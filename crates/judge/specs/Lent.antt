@@ -16,9 +16,12 @@ use Rattle.loops.specs.Table.{padded, padded-at, padded-past}
 use Rattle.plan.specs.declared.Plan.{Plan}
 use Rattle.plan.specs.Value.{share, counter-sum, Synchronising}
 use Rattle.plan.specs.Tests.{home, different, synchronises}
-use Rattle.plan.specs.Formed.{Tabled, past}
-use Rattle.plan.specs.Seating.{home-table, home-table-at, synchronises-exactly}
-use Rattle.seats.specs.Crossing.{crossing-table, crossing-at}
+use Rattle.plan.specs.Tables.{Tabled}
+use Rattle.plan.specs.Formed.{past}
+use Rattle.plan.specs.Tests.{home-table}
+use Rattle.plan.specs.Seating.{home-table-at, synchronises-exactly}
+use Rattle.seats.specs.Crossing.{crossing-table}
+use Rattle.seats.specs.Laws.{crossing-at}
 use Rattle.routes.specs.Rows.{no-route, emptiest-row}
 use Rattle.routes.specs.Relaxing.{EndsInRow}
 use Rattle.routes.specs.Settling.{row-most}

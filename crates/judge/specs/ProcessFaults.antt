@@ -16,7 +16,7 @@ use Rattle.net.specs.Tables.{graph-of-tables}
 use Rattle.plan.specs.declared.Plan.{Plan}
 use Rattle.plan.specs.Value.{graph-of, base, node-at, HasProcesses}
 use Rattle.plan.specs.Tests.{process-at}
-use Rattle.plan.specs.Formed.{Tabled}
+use Rattle.plan.specs.Tables.{Tabled}
 use Rattle.plan.specs.Seating.{process-at-lt, ends-after, begins-before, process-at-is, within, has-processes}
 use Rattle.judge.specs.Faults.{ProcessEdge, Fault9}
 use Rattle.rounds.specs.Lent.{is-edge, is-last, next-position, edge-tokens, lacks-edge}

@@ -20,7 +20,8 @@ use Rattle.plan.specs.declared.Plan.{Plan}
 use Rattle.plan.specs.Value.{graph-of, Synchronising, counter-sum, edge-sum}
 use Rattle.routes.specs.Rows.{no-route, emptiest-row}
 use Rattle.routes.specs.Emptiest.{row-some, row-emptiest, row-small, row-is}
-use Rattle.plan.specs.Formed.{Tabled, shaped}
+use Rattle.plan.specs.Tables.{Tabled}
+use Rattle.plan.specs.Formed.{shaped}
 use Rattle.judge.specs.Conditions.{RouteBack, C0, Multiple, Exceeds, C4}
 use Rattle.judge.specs.Faults.{Fault13, Fault14, Fault15, Fault16}
 use Rattle.seats.specs.Crossing.{crossing-table}

@@ -17,9 +17,4 @@ pub record Upheld (pl : Plan) : Type 0 where
 -- and it is in shape
 pub record Sound (pl : Plan) : Type 0 where
   pub shape : InShape pl
-  pub processes : HasProcesses pl
-  pub c0 : C0 pl
-  pub c1 : C1 pl
-  pub c2 : C2 pl
-  pub c3 : C3 pl
-  pub c4 : C4 pl
+  pub upheld : Upheld pl

@@ -1,6 +1,7 @@
 -- Tests 9 to 16 in order and the least modulus, as the program works them out. Definitions only.
 -- Assumes nothing.
 use Prim.Native.Nat.{ℕ, _*_, _%_}
+use mathlib.Core.Path.{_≡_}
 use mathlib.Core.List.{List}
 use mathlib.Core.Bool.{Bool, not}
 use lib.Dec.{eqb}
@@ -9,7 +10,7 @@ use Rattle.loops.specs.Table.{padded}
 use Rattle.plan.specs.declared.Plan.{Plan}
 use Rattle.plan.specs.Value.{share, counter-sum, edge-sum}
 use Rattle.plan.specs.Tests.{bad-counts, refuse-lowest, refuse-if, tables-then}
-use Rattle.plan.specs.Seating.{home-table}
+use Rattle.plan.specs.Tests.{home-table}
 use Rattle.seats.specs.Crossing.{crossing-table}
 use Rattle.rounds.specs.Lent.{lacks-edge, bad-counter-in, bad-increment-in, bad-sum-in}
 use Rattle.cycles.specs.Lent.{loop-sum-in, on-free-cycle-in, no-way-back-in, not-above-in, most-asked}
@@ -105,3 +106,7 @@ from-5 pl = tables-then Refused pl (from-9 pl)
 -- what the judge answers of any plan value: tests 3 and 5 to 16 in 01's order; its Q is not looked at
 unfoldable pub judged : Plan → Answer
 judged pl = refuse-if Refused 3 (bad-counts (pl .nodes) (pl .processes) (pl .edges) (pl .counters) (pl .modulus)) (from-5 pl)
+
+-- the plan value is accepted
+abbrev pub AcceptedPlan : Plan → Type 0
+AcceptedPlan pl = (q modulus least : ℕ) × (judged pl ≡ Accepted q modulus least)

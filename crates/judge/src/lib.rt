@@ -6,7 +6,7 @@ ghost use Prim.Native.Nat.{_%_, _<_, _≤_};
 ghost use lib.Dec.{eqb};
 ghost use Rattle.plan.specs.Value.{plan-with};
 ghost use Rattle.plan.specs.Faults.{CountsFit};
-ghost use Rattle.plan.specs.Formed.{Tabled};
+ghost use Rattle.plan.specs.Tables.{Tabled};
 ghost use Rattle.cycles.specs.Lent.{Small};
 ghost use Rattle.judge.specs.Tests.{counter-0, sums-of, from-15-in, from-13-in, from-11-in, from-9, from-5, judged};
 ghost use Rattle.judge.specs.Lent.{EdgesOk, CountersOk};

@@ -8,7 +8,8 @@ use lib.Dec.{eqb, ltb}
 use Rattle.loops.specs.Choice.{at}
 use Rattle.plan.specs.declared.Plan.{Plan}
 use Rattle.plan.specs.Faults.{InShape}
-use Rattle.plan.specs.Formed.{Tabled, formed}
+use Rattle.plan.specs.Tables.{Tabled}
+use Rattle.plan.specs.Formed.{formed}
 use Rattle.plan.specs.Seating.{node-at-lt}
 use Rattle.machine.specs.declared.State.{State}
 use Rattle.machine.specs.declared.Reply.the-variants.{Opened, Found, Wait, Fired, Refused}

@@ -13,7 +13,8 @@ use Rattle.loops.specs.Choice.{at, one-if, if-le}
 use Rattle.plan.specs.declared.Plan.{Plan}
 use Rattle.plan.specs.Value.{node-at}
 use Rattle.plan.specs.Faults.{InShape}
-use Rattle.plan.specs.Formed.{Tabled, formed}
+use Rattle.plan.specs.Tables.{Tabled}
+use Rattle.plan.specs.Formed.{formed}
 use Rattle.plan.specs.Seating.{node-at-lt}
 use Rattle.machine.specs.declared.State.{State}
 use Rattle.machine.specs.States.{mark, next-node, fresh, Sized}

@@ -11,7 +11,8 @@ use Rattle.loops.specs.Sum.{sum, sum-same, sum-none, sum-split}
 use Rattle.plan.specs.declared.Plan.{Plan}
 use Rattle.plan.specs.Value.{Synchronising}
 use Rattle.plan.specs.Faults.{InShape}
-use Rattle.plan.specs.Formed.{Tabled, formed}
+use Rattle.plan.specs.Tables.{Tabled}
+use Rattle.plan.specs.Formed.{formed}
 use Rattle.machine.specs.declared.State.{State}
 use Rattle.machine.specs.declared.Reply.the-variants.{Opened}
 use Rattle.machine.specs.declared.Turned.{Turned}

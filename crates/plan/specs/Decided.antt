@@ -1,19 +1,17 @@
 -- Tests 5 to 8 of a plan value decide by their order, whatever comes after them. Assumes nothing.
 use mathlib.Core.Path.{_≡_}
-use mathlib.Core.List.{List, _∷_}
+use mathlib.Core.List.{List}
 use Prim.Native.Nat.{ℕ}
 use lib.Dec.{eqb}
 use Rattle.plan.specs.declared.Plan.{Plan}
 use Rattle.plan.specs.Value.{base}
-use Rattle.plan.specs.Faults.{Fault3, Fault5, Fault6, Fault7, Fault8}
+use Rattle.plan.specs.Order.{Passes, Numbered}
+use Rattle.plan.specs.Tables.{Tabled}
+use Rattle.plan.specs.Faults.{Fault3, tables-order}
 use Rattle.plan.specs.Tests.{zero-length, bad-order, bad-node, bad-edge, refuse-lowest, order-then, tables-then}
-use Rattle.plan.specs.Passed.{Passes, test-5, test-6, test-7, test-8}
-use Rattle.plan.specs.Formed.{Tabled, tabled}
-use Rattle.plan.specs.Chain.{Numbered, Outcome, decides-lowest, decides-two}
-
--- the faults of a plan value's tables in the order of their tests, and those that come after them
-unfoldable pub tables-order : Plan → List Numbered → List Numbered
-tables-order pl rest = (5, Fault5 pl) ∷ (6, Fault6 pl) ∷ (7, Fault7 pl) ∷ (8, Fault8 pl) ∷ rest
+use Rattle.plan.specs.Passed.{test-5, test-6, test-7, test-8}
+use Rattle.plan.specs.Formed.{tabled}
+use Rattle.plan.specs.Chain.{Outcome, decides-lowest, decides-two}
 
 module _ {A : Type 0} (refused : ℕ → ℕ → A) (final : A)
     (refused-one : (k p k′ p′ : ℕ) → refused k p ≡ refused k′ p′ → (k ≡ k′) × (p ≡ p′))

@@ -1,10 +1,13 @@
 -- The faults of 01's table that a plan value can have by itself (numbers 3 and 5 to 8), each at its place, and the shape of a plan value.
--- Definitions only, in 01's words. Assumes nothing.
+-- In 01's words. Definitions only.
+-- Assumes nothing.
 use mathlib.Core.Path.{_≡_}
+use mathlib.Core.List.{List, _∷_}
 use mathlib.Core.Logic.{_⊎_, _≢_}
 use Prim.Native.Nat.{ℕ, suc, _≤_, _<_}
 use Rattle.loops.specs.Choice.{at}
 use Rattle.plan.specs.declared.Plan.{Plan}
+use Rattle.plan.specs.Order.{Numbered}
 use Rattle.plan.specs.Value.{base, counter-sum}
 
 -- "nodes 1 to 64, processes 1 to 64, edges 1 to 512, counters 1 to 64, N 1 to 2,000,000,000"
@@ -65,3 +68,7 @@ module _ (pl : Plan) where
     pub passes-8 : (place : ℕ) → Fault8 place → ⊥
     pub q-is : pl .q ≡ counter-sum pl 0
     pub q-some : 1 ≤ pl .q
+
+-- the faults of a plan value's tables in the order of their tests, and those that come after them
+unfoldable pub tables-order : Plan → List Numbered → List Numbered
+tables-order pl rest = (5, Fault5 pl) ∷ (6, Fault6 pl) ∷ (7, Fault7 pl) ∷ (8, Fault8 pl) ∷ rest

@@ -1,7 +1,7 @@
 -- What a plan value is like whose tests pass, as facts to use, and its shape test.
 -- Assumes nothing.
 use Prim.Native.Nat.{ℕ, suc, _≤_, _<_}
-use mathlib.Core.Path.{_≡_, refl, sym}
+use mathlib.Core.Path.{_≡_, refl, sym, subst}
 use mathlib.Core.Bool.{Bool, true, false}
 use mathlib.Core.Logic.{inl, inr, _↔_, ⊎-elim}
 use native.Mathlib.Decide.{ℕ-discrete, decLt}
@@ -17,21 +17,9 @@ use Rattle.plan.specs.declared.Plan.{Plan}
 use Rattle.plan.specs.Value.{graph-of, base, share, counter-sum}
 use Rattle.plan.specs.Faults.{CountsFit, Fault3, Fault5, Fault6, Fault7, Fault8, Above, InShape}
 use Rattle.plan.specs.Tests.{refuse-lowest, order-then, tables-then, q-fits, plan-fits}
-use Rattle.plan.specs.Passed.{IsFault, Passes, passes, passed, counts-fit, passes-3, passes-5, test-6, test-7, test-8}
-
--- tests 3, 5, 6, 7 and 8 pass: what the tables hold
-pub record Tabled (pl : Plan) : Type 0 where
-  pub counts : CountsFit pl
-  pub length-some : (p : ℕ) → p < pl .processes → 1 ≤ at (pl .lengths) p
-  pub full : base (pl .lengths) (pl .processes) ≡ pl .nodes
-  pub order-lt : (i : ℕ) → i < pl .nodes → at (pl .order) i < pl .nodes
-  pub order-apart : (i j : ℕ) → i < pl .nodes → j < pl .nodes → at (pl .order) i ≡ at (pl .order) j → i ≡ j
-  pub counter-lt : (v : ℕ) → v < pl .nodes → at (pl .counter) v < pl .counters
-  pub increment-most : (v : ℕ) → v < pl .nodes → at (pl .increment) v ≤ 255
-  pub source-lt : (e : ℕ) → e < pl .edges → at (pl .source) e < pl .nodes
-  pub destination-lt : (e : ℕ) → e < pl .edges → at (pl .destination) e < pl .nodes
-  pub tokens-most : (e : ℕ) → e < pl .edges → at (pl .tokens) e ≤ 1000
-  pub rising : (e : ℕ) → suc e < pl .edges → Above pl e (suc e)
+use Rattle.plan.specs.Order.{Passes}
+use Rattle.plan.specs.Tables.{Tabled}
+use Rattle.plan.specs.Passed.{IsFault, passes, passed, counts-fit, passes-3, passes-5, test-6, test-7, test-8}
 
 -- the plan value is in shape
 pub record Formed (pl : Plan) : Type 0 where
@@ -85,6 +73,40 @@ module _ (pl : Plan) where
                   | no s ↦ absurd (g (⊎-elim l (λ u. s (u .0))))
                 ]
           ]
+
+  -- and the other way round: no fault 3 and none of 5 to 8 stands where the tables hold that
+  module _ (t : Tabled pl) where
+    pub none-3 : Passes (Fault3 pl)
+    unfolding Fault3
+    none-3 p f = f .1 (t .counts)
+
+    pub none-5 : Passes (Fault5 pl)
+    unfolding Fault5
+    none-5 p (inl f) = omega (arith, t .length-some p (f .0), f .1)
+    none-5 p (inr f) = f .1 (t .full)
+
+    pub none-6 : Passes (Fault6 pl)
+    unfolding Fault6
+    none-6 p f =
+        ⊎-elim (λ g. omega (arith, t .order-lt p (f .0)))
+        (λ g. omega (arith, t .order-apart (g .0) p (omega (arith, g .1, f .0)) (f .0) (g .2), g .1)) (f .1)
+
+    pub none-7 : Passes (Fault7 pl)
+    unfolding Fault7
+    none-7 p f = ⊎-elim (λ g. omega (arith, t .counter-lt p (f .0))) (λ g. omega (arith, t .increment-most p (f .0))) (f .1)
+
+    pub none-8 : Passes (Fault8 pl)
+    unfolding Fault8
+    none-8 p f =
+        ⊎-elim (λ g. omega (arith, t .source-lt p (f .0)))
+        (⊎-elim (λ g. omega (arith, t .destination-lt p (f .0)))
+        (⊎-elim (λ g. omega (arith, t .tokens-most p (f .0)))
+        (λ g. g .2 (subst (Above pl (g .0)) (g .1) (t .rising (g .0) (omega (arith, g .1, f .0))))))) (f .1)
+
+    -- where Q is counter 0's sum and at least 1 the plan value is in shape
+    pub in-shape : pl .q ≡ counter-sum pl 0 → 1 ≤ counter-sum pl 0 → InShape pl
+    in-shape is some =
+        record { passes-3 = none-3; passes-5 = none-5; passes-6 = none-6; passes-7 = none-7; passes-8 = none-8; q-is = is; q-some = omega arith }
 
   -- a counter has at most 64 increments of at most 255
   pub counter-sum-most : Tabled pl → (c : ℕ) → counter-sum pl c ≤ 16320

@@ -12,6 +12,7 @@ use Rattle.loops.specs.Choice.{at, true-false, not-true, not-false, both, both-
 use Rattle.loops.specs.First.{first, first-le, first-below, first-here, first-none, first-all}
 use Rattle.loops.specs.Any.{any, any-some, any-from}
 use Rattle.plan.specs.declared.Plan.{Plan}
+use Rattle.plan.specs.Order.{Passes}
 use Rattle.plan.specs.Value.{base}
 use Rattle.plan.specs.Faults.{CountsFit, Fault3, Fault5, Fault6, Fault7, Fault8, Above}
 use Rattle.plan.specs.Tests.{outside, bad-counts, zero-length, same-entry, bad-order, bad-node, not-above, not-rising, bad-edge}
@@ -19,10 +20,6 @@ use Rattle.plan.specs.Tests.{outside, bad-counts, zero-length, same-entr
 -- test f, at the places below n, is the fault
 abbrev pub IsFault : (ℕ → Bool) → ℕ → (ℕ → Type 0) → Type 0
 IsFault f n Fault = (place : ℕ) → ((place < n) × (f place ≡ true)) ↔ Fault place
-
--- a number's test passes: its fault is at no place
-abbrev pub Passes : (ℕ → Type 0) → Type 0
-Passes Fault = (place : ℕ) → Fault place → ⊥
 
 module _ {f : ℕ → Bool} {n : ℕ} {Fault : ℕ → Type 0} (is : IsFault f n Fault) where
   -- the search ends at a fault

@@ -17,8 +17,9 @@ use Rattle.net.specs.Processes.{Edge}
 use Rattle.net.specs.Tables.{graph-of-tables}
 use Rattle.plan.specs.declared.Plan.{Plan}
 use Rattle.plan.specs.Value.{graph-of, base, node-at, HasProcesses, Sits, Synchronising}
-use Rattle.plan.specs.Tests.{stands-at, place-of, ends-past, process-at, home-of, home, seat, synchronises, different}
-use Rattle.plan.specs.Formed.{Tabled, past}
+use Rattle.plan.specs.Tests.{stands-at, place-of, ends-past, process-at, home-of, home, seat, synchronises, different, home-table}
+use Rattle.plan.specs.Tables.{Tabled}
+use Rattle.plan.specs.Formed.{past}
 use Rattle.plan.specs.Onto.{onto}
 
 -- the process of a position: it begins at or before it and ends past it
@@ -45,10 +46,6 @@ module _ (lengths : List ℕ) (processes i : ℕ) where
   process-at-is p h l m =
       first-unique (ends-past lengths i) processes p h (lt-ltb i (base lengths (suc p)) m)
       (λ k b. le-ltb i (base lengths (suc k)) (omega (arith, sum-step (at lengths) (suc k) p b)))
-
--- the processes of the nodes as a table, 0 past the count
-abbrev pub home-table : Plan → List ℕ
-home-table pl = padded (home-of (pl .order) (pl .lengths) (pl .nodes) (pl .processes)) 64 (pl .nodes)
 
 module _ (pl : Plan) (t : Tabled pl) where
   -- the position of a node, and the node of a position

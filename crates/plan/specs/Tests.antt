@@ -1,4 +1,4 @@
--- Tests 3 and 5 to 8, the process of a node and the shape of a plan value, as the program works them out.
+-- Tests 3 and 5 to 8, the process of a node and the shape of a plan value, as the program works them out. Definitions only.
 -- Assumes nothing.
 use Prim.Native.Nat.{ℕ, suc, _-_}
 use mathlib.Core.List.{List}
@@ -7,6 +7,7 @@ use lib.Dec.{eqb, ltb, leb}
 use Rattle.loops.specs.Choice.{at, if, both, either}
 use Rattle.loops.specs.First.{first}
 use Rattle.loops.specs.Any.{any}
+use Rattle.loops.specs.Table.{padded}
 use Rattle.plan.specs.declared.Plan.{Plan}
 use Rattle.plan.specs.Value.{base, counter-sum}
 
@@ -67,6 +68,10 @@ home-of order lengths nodes processes v = process-at lengths processes (place-of
 
 unfoldable pub home : Plan → ℕ → ℕ
 home pl v = home-of (pl .order) (pl .lengths) (pl .nodes) (pl .processes) v
+
+-- the processes of the nodes as a table, 0 past the count
+abbrev pub home-table : Plan → List ℕ
+home-table pl = padded (home-of (pl .order) (pl .lengths) (pl .nodes) (pl .processes)) 64 (pl .nodes)
 
 -- its seat in that process's round
 unfoldable pub seat : Plan → ℕ → ℕ

@@ -7,9 +7,12 @@ use lib.ListN.{length}
 use Rattle.plan.specs.Value.{base}
 use Rattle.plan.specs.Faults.{Fault3, Fault5, Fault6, Fault7, Fault8}
 use Rattle.plan.specs.Tests.{zero-length, bad-order, bad-node, bad-edge}
-use Rattle.plan.specs.Passed.{Passes, test-3, test-5, test-6, test-7, test-8, counts-test}
-use Rattle.plan.specs.Chain.{Numbered, NoneOf, decides-lowest, decides-if, decides-unless, decides-two}
-use Rattle.plan.specs.Formed.{Tabled, tabled}
+use Rattle.plan.specs.Order.{Passes}
+use Rattle.plan.specs.Passed.{test-3, test-5, test-6, test-7, test-8, counts-test}
+use Rattle.plan.specs.Order.{Numbered, NoneOf}
+use Rattle.plan.specs.Chain.{decides-lowest, decides-if, decides-unless, decides-two}
+use Rattle.plan.specs.Tables.{Tabled}
+use Rattle.plan.specs.Formed.{tabled}
 use Rattle.judge.specs.Tests.{refuse-if, refuse-lowest}
 use Rattle.judge.specs.Decided.{conditions-order, Decided, conditions-decided}
 use Rattle.image.specs.Image.{plan-of}

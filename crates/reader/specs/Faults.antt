@@ -6,7 +6,7 @@ use mathlib.Core.Logic.{_⊎_, _≢_}
 use Prim.Native.Nat.{ℕ, _<_}
 use lib.ListN.{length}
 use Rattle.plan.specs.Faults.{Fault3, Fault5, Fault6, Fault7, Fault8}
-use Rattle.plan.specs.Chain.{Numbered}
+use Rattle.plan.specs.Order.{Numbered}
 use Rattle.judge.specs.Decided.{conditions-order}
 use Rattle.image.specs.Image.{two-bytes, plan-of, OffsetsFit}
 

@@ -10,11 +10,11 @@ use lib.ListN.{length}
 use Rattle.loops.specs.Choice.{at, true-or-false}
 use Rattle.plan.specs.Value.{counter-sum}
 use Rattle.plan.specs.Faults.{Above, InShape, Fault3, Fault5, Fault6, Fault7, Fault8}
-use Rattle.plan.specs.Formed.{Tabled}
+use Rattle.plan.specs.Tables.{Tabled}
 use Rattle.judge.specs.Sound.{Upheld}
 use Rattle.judge.specs.Exactly.{conditions-exactly}
 use Rattle.judge.specs.Decided.{none-applies, none-applies-back}
-use Rattle.plan.specs.Chain.{NoneOf}
+use Rattle.plan.specs.Order.{NoneOf}
 use Rattle.image.specs.Image.{two-bytes, plan-of}
 use Rattle.reader.specs.Faults.{Fault1, Fault2, Fault4, image-order}
 use Rattle.reader.specs.Layout.{Layout}

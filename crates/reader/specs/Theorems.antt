@@ -7,7 +7,8 @@ use Prim.Native.Nat.{ℕ, _≤_}
 use native.Mathlib.Omega.{arith}
 use Rattle.plan.specs.Value.{counter-sum, Synchronising}
 use Rattle.plan.specs.Unique.{one-answer}
-use Rattle.plan.specs.Chain.{FirstFault, EachNumber, first-number}
+use Rattle.plan.specs.Order.{FirstFault}
+use Rattle.plan.specs.Chain.{EachNumber, first-number}
 use Rattle.judge.specs.declared.Answer.the-variants.{Accepted, Refused}
 use Rattle.judge.specs.Conditions.{LeastModulus}
 use Rattle.judge.specs.Sound.{Upheld, Sound}

@@ -5,7 +5,7 @@ ghost use Prim.Native.Nat.{_≤_};
 ghost use lib.ListN.{length};
 ghost use Rattle.plan.specs.Value.{counter-sum};
 ghost use Rattle.plan.specs.Faults.{CountsFit, Fault5};
-ghost use Rattle.plan.specs.Passed.{Passes};
+ghost use Rattle.plan.specs.Order.{Passes};
 ghost use Rattle.image.specs.Header.{good-format};
 ghost use Rattle.reader.specs.Tests.{from-5, from-6, no-plan, reading-of};
 ghost use Rattle.reader.specs.Steps.{with-plan, refusal-of};

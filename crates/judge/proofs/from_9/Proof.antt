@@ -6,7 +6,8 @@ use Rattle.loops.specs.Table.{padded}
 use Rattle.plan.specs.declared.Plan.{Plan}
 use Rattle.plan.specs.Value.{plan-with, counter-sum}
 use Rattle.plan.specs.Refusing.{refused-here, passed-here}
-use Rattle.seats.specs.Crossing.{crosses, crossing-table, ends-ok}
+use Rattle.seats.specs.Crossing.{crosses, crossing-table}
+use Rattle.seats.specs.Laws.{ends-ok}
 use Rattle.rounds.specs.Lent.{bad-counter-in}
 use Rattle.judge.specs.Tests.{bad-counter, sum-table, from-11-in, from-9}
 use Rattle.judge.specs.Lent.{edges-ok, counters-ok}

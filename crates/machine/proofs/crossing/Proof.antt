@@ -1,6 +1,6 @@
 -- `machine::crossing` meets its contract. Assumes nothing.
 use borrow.Author.Needs.{needs}
-use Rattle.seats.specs.Crossing.{ends-ok}
+use Rattle.seats.specs.Laws.{ends-ok}
 use Rattle.machine.specs.Same.{crossing-from}
 use Rattle.machine.proofs.crossing.Statement.{statement}
 use Rattle.machine.proofs.crossing.Tie as tie
