@@ -1,11 +1,11 @@
 -- The tests of a plan value decide by the order of 01's numbers. Assumes nothing.
-use mathlib.Core.Path.{_≡_}
+use mathlib.Core.Path.{_≡_, refl, sym, _∙_}
 use mathlib.Core.List.{List, [], _∷_}
-use mathlib.Core.Logic.{_↔_}
+use mathlib.Core.Logic.{_↔_, inl, inr}
 use Prim.Native.Nat.{ℕ, _≤_}
 use native.Mathlib.Omega.{arith}
 use Rattle.plan.specs.declared.Plan.{Plan}
-use Rattle.plan.specs.Value.{counter-sum, edge-sum}
+use Rattle.plan.specs.Value.{counter-sum, edge-sum, with-q}
 use Rattle.plan.specs.Faults.{Fault3, tables-order}
 use Rattle.plan.specs.Formed.{tabled, none-3, none-5, none-6, none-7, none-8}
 use Rattle.plan.specs.Order.{Passes}
@@ -18,7 +18,7 @@ use Rattle.plan.specs.Tables.{Tabled}
 use Rattle.judge.specs.declared.Answer.{Answer}
 use Rattle.judge.specs.declared.Answer.the-variants.{Accepted, Refused}
 use Rattle.judge.specs.Faults.{conditions-order, order-from-5, plan-order}
-use Rattle.plan.specs.Tests.{refuse-if, refuse-lowest}
+use Rattle.plan.specs.Tests.{refuse-if, refuse-lowest, order-then, tables-then}
 use Rattle.judge.specs.Tests.{bad-position, bad-counter, bad-increment, bad-sum, on-free-cycle, no-way-back, not-multiple, not-above-bound, least-modulus, from-15-in, from-13-in, from-11-in, from-9, from-5, judged}
 use Rattle.judge.specs.ProcessFaults.{test-9}
 use Rattle.judge.specs.CounterFaults.{test-10, test-11, test-12}
@@ -57,6 +57,19 @@ module _ (pl : Plan) where
   pub decided-from-5 : Passes (Fault3 pl) → Decided (order-from-5 pl) (from-5 pl)
   unfolding order-from-5 from-5
   decided-from-5 n3 = tables-decided _ _ _ _ pl (conditions-order pl) (from-9 pl) n3 conditions-decided
+
+  -- what the tests from 5 on accept is answered counter 0's sum
+  pub from-5-numbers : Passes (Fault3 pl) → (q modulus least : ℕ) → from-5 pl ≡ Accepted q modulus least → q ≡ counter-sum pl 0
+  from-5-numbers n3 q modulus least e =
+      elim (decided-from-5 n3 .one-of) [
+        | inl a ↦ cc
+        | inr r ↦ absurd (not-accepted (r .0) (r .1) q modulus least (sym (r .2) ∙ e))
+      ]
+
+  -- the plan value's Q is not looked at
+  pub without-q : (q q′ : ℕ) → from-5 (with-q pl q) ≡ from-5 (with-q pl q′)
+  unfolding from-5 tables-then order-then from-9 counter-sum
+  without-q q q′ = refl
 
   -- the judge's answer says which is the first, or that there is none
   pub judged-decided : Decided (plan-order pl) (judged pl)

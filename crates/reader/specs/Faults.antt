@@ -1,13 +1,13 @@
--- The faults of 01's table, "Numbers a plan can be turned down with", for an image. Definitions only, in 01's words.
+-- The faults of 01's table, "Numbers a plan can be turned down with", for an image, in 01's words. Definitions only.
 -- Assumes nothing.
 use mathlib.Core.Path.{_≡_}
 use mathlib.Core.List.{List, _∷_}
 use mathlib.Core.Logic.{_⊎_, _≢_}
 use Prim.Native.Nat.{ℕ, _<_}
 use lib.ListN.{length}
-use Rattle.plan.specs.Faults.{Fault3, Fault5, Fault6, Fault7, Fault8}
+use Rattle.plan.specs.Faults.{Fault3}
 use Rattle.plan.specs.Order.{Numbered}
-use Rattle.judge.specs.Decided.{conditions-order}
+use Rattle.judge.specs.Faults.{order-from-5}
 use Rattle.image.specs.Image.{two-bytes, plan-of, OffsetsFit}
 
 module _ (s : List ℕ) where
@@ -23,8 +23,6 @@ module _ (s : List ℕ) where
   unfoldable pub Fault4 : ℕ → Type 0
   Fault4 place = (place ≡ 0) × (OffsetsFit s → ⊥)
 
-  -- 01's table in the order of its tests
+  -- 01's table in the order of its tests: the image's own, and then the plan value's
   unfoldable pub image-order : List Numbered
-  image-order =
-      (1, Fault1) ∷ (2, Fault2) ∷ (3, Fault3 (plan-of s)) ∷ (4, Fault4) ∷ (5, Fault5 (plan-of s)) ∷ (6, Fault6 (plan-of s)) ∷ (7, Fault7 (plan-of s))
-      ∷ (8, Fault8 (plan-of s)) ∷ conditions-order (plan-of s)
+  image-order = (1, Fault1) ∷ (2, Fault2) ∷ (3, Fault3 (plan-of s)) ∷ (4, Fault4) ∷ order-from-5 (plan-of s)

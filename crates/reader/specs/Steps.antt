@@ -8,63 +8,78 @@ use lib.ListN.{length}
 use borrow.Author.Tests.{lt-ltb, le-ltb}
 use Rattle.loops.specs.Choice.{if-true, if-false}
 use Rattle.plan.specs.declared.Plan.{Plan}
-use Rattle.plan.specs.Value.{counter-sum}
 use Rattle.plan.specs.Faults.{CountsFit}
-use Rattle.plan.specs.Passed.{counts-fit}
+use Rattle.plan.specs.Value.{with-q}
+use Rattle.plan.specs.Passed.{counts-fit, passes-3}
 use Rattle.plan.specs.Tests.{bad-counts}
 use Rattle.judge.specs.declared.Answer.{Answer}
-use Rattle.judge.specs.declared.Answer.the-variants.{Refused}
-use Rattle.judge.specs.Tests.{refuse-if}
+use Rattle.judge.specs.declared.Answer.the-variants.{Accepted, Refused}
+use Rattle.plan.specs.Tests.{refuse-if}
+use Rattle.judge.specs.Tests.{from-5}
+use Rattle.judge.specs.Decided.{from-5-numbers, without-q}
 use Rattle.reader.specs.declared.Reading.{Reading}
 use Rattle.image.specs.Image.{two-bytes, four-bytes, plan-of}
 use Rattle.reader.specs.HeaderFaults.{offsets-exactly}
-use Rattle.reader.specs.Laid.{q-is}
+use Rattle.reader.specs.Theorems.{q-is}
 use Rattle.image.specs.Room.{Laid}
-use Rattle.reader.specs.Tests.{from-5, verdict, no-plan, plan-beside, reading-of}
+use Rattle.reader.specs.Tests.{verdict, no-plan, plan-beside, reading-of}
 use Rattle.image.specs.Header.{good-format, good-offsets}
+
+-- the plan beside an answer, with that answer's Q
+unfoldable pub filled : Answer → Plan → Plan
+filled (Accepted q modulus least) pl = with-q pl q
+filled (Refused number place) pl = no-plan
 
 -- an answer with the plan beside it
 unfoldable pub with-plan : Answer → Plan → Reading
-with-plan a pl = record { answer = a; plan = plan-beside a pl }
+with-plan a pl = record { answer = a; plan = filled a pl }
 
 -- a refusal with nothing of the plan beside it
 unfoldable pub refusal-of : ℕ → Reading
 refusal-of number = record { answer = Refused number 0; plan = no-plan }
 
-refusal-is : (number : ℕ) (pl : Plan) → with-plan (Refused number 0) pl ≡ refusal-of number
-unfolding with-plan refusal-of plan-beside
-refusal-is number pl = refl
-
 module _ (s : List ℕ) where
-  reading-is : (a : Answer) → verdict s ≡ a → with-plan a (plan-of s) ≡ reading-of s
-  unfolding with-plan reading-of
-  reading-is a e = sym (ap (λ a. record { answer = a; plan = plan-beside a (plan-of s) }) e)
+  -- the image's plan but for its Q, with the answer's Q filled in, is the image's plan
+  filled-is : (a : Answer) (pl : Plan) → with-q pl (plan-of s .q) ≡ plan-of s → ((q modulus least : ℕ) → a ≡ Accepted q modulus least → q ≡ plan-of s .q)
+      → filled a pl ≡ plan-beside a (plan-of s)
+  unfolding filled plan-beside
+  filled-is (Accepted q modulus least) pl same is = ap (with-q pl) (is q modulus least refl) ∙ same
+  filled-is (Refused number place) pl same is = refl
+
+  refused-is : (number : ℕ) → verdict s ≡ Refused number 0 → refusal-of number ≡ reading-of s
+  unfolding refusal-of reading-of plan-beside
+  refused-is number e = sym (ap (λ a. record { answer = a; plan = plan-beside a (plan-of s) }) e)
 
   abbrev pub counts-bad : Bool
   counts-bad = bad-counts (two-bytes s 2) (two-bytes s 4) (two-bytes s 6) (two-bytes s 8) (four-bytes s 12)
 
   pub stops-at-1 : length s < 36 → refusal-of 1 ≡ reading-of s
   unfolding verdict refuse-if
-  stops-at-1 h = sym (refusal-is 1 (plan-of s)) ∙ reading-is (Refused 1 0) (if-true _ _ _ (lt-ltb _ _ h))
+  stops-at-1 h = refused-is 1 (if-true _ _ _ (lt-ltb _ _ h))
 
   pub stops-at-2 : 36 ≤ length s → good-format s ≡ false → refusal-of 2 ≡ reading-of s
   unfolding verdict refuse-if
-  stops-at-2 h f = sym (refusal-is 2 (plan-of s)) ∙ reading-is (Refused 2 0) (if-false _ _ _ (le-ltb _ _ h) ∙ if-false _ _ _ f)
+  stops-at-2 h f = refused-is 2 (if-false _ _ _ (le-ltb _ _ h) ∙ if-false _ _ _ f)
 
   pub stops-at-3 : 36 ≤ length s → good-format s ≡ true → counts-bad ≡ true → refusal-of 3 ≡ reading-of s
   unfolding verdict refuse-if
-  stops-at-3 h f b = sym (refusal-is 3 (plan-of s)) ∙ reading-is (Refused 3 0) (if-false _ _ _ (le-ltb _ _ h) ∙ if-true _ _ _ f ∙ if-true _ _ _ b)
+  stops-at-3 h f b = refused-is 3 (if-false _ _ _ (le-ltb _ _ h) ∙ if-true _ _ _ f ∙ if-true _ _ _ b)
 
   pub stops-at-4 : 36 ≤ length s → good-format s ≡ true → counts-bad ≡ false → good-offsets s ≡ false → refusal-of 4 ≡ reading-of s
   unfolding verdict refuse-if
   stops-at-4 h f b o =
-      sym (refusal-is 4 (plan-of s))
-      ∙ reading-is (Refused 4 0) (if-false _ _ _ (le-ltb _ _ h) ∙ if-true _ _ _ f ∙ if-false _ _ _ b ∙ if-false _ _ _ o)
+      refused-is 4 (if-false _ _ _ (le-ltb _ _ h) ∙ if-true _ _ _ f ∙ if-false _ _ _ b ∙ if-false _ _ _ o)
 
-  pub goes-on : 36 ≤ length s → good-format s ≡ true → counts-bad ≡ false → good-offsets s ≡ true → with-plan (from-5 (plan-of s)) (plan-of s) ≡ reading-of s
-  unfolding verdict refuse-if
-  goes-on h f b o =
-      reading-is (from-5 (plan-of s)) (if-false _ _ _ (le-ltb _ _ h) ∙ if-true _ _ _ f ∙ if-false _ _ _ b ∙ if-true _ _ _ o)
+  -- the answer of the tests from 5 on, with the plan that it accepts
+  pub goes-on : (pl : Plan) → 36 ≤ length s → good-format s ≡ true → counts-bad ≡ false → good-offsets s ≡ true → with-q pl (plan-of s .q) ≡ plan-of s
+      → with-plan (from-5 (plan-of s)) pl ≡ reading-of s
+  unfolding verdict refuse-if with-plan reading-of plan-of
+  goes-on pl h f b o same =
+      let e : verdict s ≡ from-5 (plan-of s) = if-false _ _ _ (le-ltb _ _ h) ∙ if-true _ _ _ f ∙ if-false _ _ _ b ∙ if-true _ _ _ o in
+      let n3 = passes-3 (plan-of s) .0 b in
+      ap (λ p. record { answer = from-5 (plan-of s); plan = p })
+      (filled-is (from-5 (plan-of s)) pl same (λ q n m a. from-5-numbers (plan-of s) n3 q n m a ∙ sym (q-is s)))
+      ∙ sym (ap (λ a. record { answer = a; plan = plan-beside a (plan-of s) }) e)
 
   -- what building the plan value needs of an image that has passed 1 to 4
   pub laid-of : 36 ≤ length s → counts-bad ≡ false → good-offsets s ≡ true → Laid s
@@ -79,10 +94,24 @@ module _ (s : List ℕ) where
         header = h;
       }
 
-  -- and what the tests from 5 on need of it
-  pub counted-of : counts-bad ≡ false → (pl : Plan) → pl ≡ plan-of s → CountsFit pl × (pl .q ≡ counter-sum pl 0)
+  -- and what the tests from 5 on need of it, which do not look at its Q
+  pub counted-of : counts-bad ≡ false → (pl : Plan) → with-q pl (plan-of s .q) ≡ plan-of s → CountsFit (with-q pl 0)
   unfolding plan-of
-  counted-of b pl e = subst (λ x. CountsFit x × (x .q ≡ counter-sum x 0)) (sym e) (counts-fit (plan-of s) b, q-is s)
+  counted-of b pl e = let k = subst CountsFit (sym e) (counts-fit (plan-of s) b) in record {
+    nodes-some = k .nodes-some;
+    nodes-most = k .nodes-most;
+    processes-some = k .processes-some;
+    processes-most = k .processes-most;
+    edges-some = k .edges-some;
+    edges-most = k .edges-most;
+    counters-some = k .counters-some;
+    counters-most = k .counters-most;
+    modulus-some = k .modulus-some;
+    modulus-most = k .modulus-most;
+  }
+
+  pub answer-is : (pl : Plan) → with-q pl (plan-of s .q) ≡ plan-of s → from-5 (with-q pl 0) ≡ from-5 (plan-of s)
+  answer-is pl e = without-q pl 0 (plan-of s .q) ∙ ap from-5 e
 
 -- the counts' test of numbers that are known by other names
 pub counts-are : {a b c d e a′ b′ c′ d′ e′ : ℕ} {r t : Bool} → r ≡ bad-counts a b c d e → a ≡ a′ → b ≡ b′ → c ≡ c′ → d ≡ d′ → e ≡ e′ → r ≡ t

@@ -1,33 +1,25 @@
--- What is proved of the reader, for every list of bytes (01, "How much each promise says"; demand 2, first half). Statements, proofs cited.
+-- Statements: what is proved of the reader, for every list of bytes (01, "How much each promise says"; demand 2, first half).
 -- Assumes nothing.
 use mathlib.Core.Path.{_≡_, refl, sym, ap, _∙_, subst}
 use mathlib.Core.List.{List}
 use mathlib.Core.Logic.{_⊎_, inl, inr, _↔_}
 use Prim.Native.Nat.{ℕ, _≤_}
-use native.Mathlib.Omega.{arith}
 use Rattle.plan.specs.Value.{counter-sum, Synchronising}
 use Rattle.plan.specs.Unique.{one-answer}
 use Rattle.plan.specs.Order.{FirstFault}
-use Rattle.plan.specs.Chain.{EachNumber, first-number}
+use Rattle.plan.specs.Chain.{first-number}
 use Rattle.judge.specs.declared.Answer.the-variants.{Accepted, Refused}
 use Rattle.judge.specs.Conditions.{LeastModulus}
 use Rattle.judge.specs.Sound.{Upheld, Sound}
 use Rattle.judge.specs.Tests.{least-modulus}
-use Rattle.judge.specs.Exactly.{q-some, conditions-exactly}
-use Rattle.judge.specs.Least as conditions
-use Rattle.judge.specs.Least.{least-alone}
+use Rattle.judge.specs.Decided.{accepted, not-accepted}
+use Rattle.judge.specs.Theorems as judge
 use Rattle.reader.specs.declared.Reading.{Reading}
 use Rattle.image.specs.Image.{plan-of}
 use Rattle.reader.specs.Faults.{image-order}
 use Rattle.reader.specs.Layout.{Layout}
-use Rattle.reader.specs.Tests.{verdict, no-plan, plan-beside, reading-of}
-use Rattle.judge.specs.Decided.{conditions-order, accepted, not-accepted}
-use Rattle.reader.specs.Decided.{outcome}
-use Rattle.reader.specs.Laid.{laid-tabled, laid-in-shape, clean-laid, upheld-clean, clean-upheld}
-
--- the image is accepted
-abbrev pub IsAccepted : List ℕ → Type 0
-IsAccepted s = (q modulus least : ℕ) × (verdict s ≡ Accepted q modulus least)
+use Rattle.reader.specs.Tests.{verdict, no-plan, plan-beside, reading-of, IsAccepted}
+use Rattle.reader.specs.Decided.{outcome, none-exactly, each-number-of-image}
 
 module _ (s : List ℕ) where
   -- an accepted image is answered Q, N and the least modulus
@@ -41,38 +33,11 @@ module _ (s : List ℕ) where
 
   -- "Every plan image … is answered": accepted, or refused with a number from 1 to 16 and a place
   pub answered : IsAccepted s ⊎ ((k p : ℕ) × (verdict s ≡ Refused k p) × (1 ≤ k) × (k ≤ 16))
-  unfolding EachNumber image-order conditions-order
   answered =
       elim (outcome s .one-of) [
         | inl a ↦ inl (_, _, _, a)
         | inr r ↦
-            let few =
-            first-number (λ k. (1 ≤ k) × (k ≤ 16)) (image-order s) (
-              (omega arith, omega arith),
-              (
-                (omega arith, omega arith),
-                (
-                  (omega arith, omega arith),
-                  (
-                    (omega arith, omega arith),
-                    (
-                      (omega arith, omega arith),
-                      (
-                        (omega arith, omega arith),
-                        (
-                          (omega arith, omega arith),
-                          (
-                            (omega arith, omega arith),
-                            ((omega arith, omega arith), ((omega arith, omega arith), ((omega arith, omega arith), ((omega arith, omega arith), ((omega arith, omega arith), ((omega arith, omega arith), ((omega arith, omega arith), ((omega arith, omega arith), tt)))))))),
-                          ),
-                        ),
-                      ),
-                    ),
-                  ),
-                ),
-              ),
-            )
-            (r .0) (r .1) (outcome s .refused-first (r .0) (r .1) .0 (r .2)) in
+            let few = first-number _ _ (each-number-of-image s) (r .0) (r .1) (outcome s .refused-first (r .0) (r .1) .0 (r .2)) in
             inr (r .0, r .1, r .2, few .0, few .1)
       ]
 
@@ -86,8 +51,8 @@ module _ (s : List ℕ) where
   -- "A plan is accepted exactly when its layout and Lamport's conditions C0 to C4, as document 01 lists them, hold."
   pub accepted-exactly : IsAccepted s ↔ (Layout s × Upheld (plan-of s))
   accepted-exactly = (
-    λ a. let c = outcome s .final-clean .0 (is-accepted a) in (clean-laid s c, clean-upheld s c),
-    λ h. (_, _, _, outcome s .final-clean .1 (upheld-clean s (h .0) (h .1))),
+    λ a. none-exactly s .0 (outcome s .final-clean .0 (is-accepted a)),
+    λ h. (_, _, _, outcome s .final-clean .1 (none-exactly s .1 h)),
   )
 
   -- "The lowest number that applies is given; within it the lowest place.": the first of the order, in which numbers rise
@@ -100,29 +65,19 @@ module _ (s : List ℕ) where
   least-is-least q modulus least e =
       let n = accepted-numbers q modulus least e in
       let h = accepted-exactly .0 (q, modulus, least, e) in
-      let t = laid-tabled s (h .0) in
-      let f = conditions-exactly (plan-of s) t .1 (h .1) in
-      let some = q-some (plan-of s) t (f .none-12) in (
-        subst (LeastModulus (plan-of s)) (sym (n .2)) (conditions.least-is-least (plan-of s) t some (f .none-14)),
-        λ alone. n .2 ∙ least-alone (plan-of s) t some (f .none-14) alone ∙ sym (n .0),
+      let t = h .0 .tables in (
+        subst (LeastModulus (plan-of s)) (sym (n .2)) (judge.least-is-least (plan-of s) t (h .1)),
+        λ alone. n .2 ∙ judge.least-alone (plan-of s) t (h .1) alone ∙ sym (n .0),
       )
+
+  -- the plan value's Q is counter 0's sum
+  pub q-is : plan-of s .q ≡ counter-sum (plan-of s) 0
+  unfolding plan-of counter-sum
+  q-is = refl
 
   -- an accepted plan is in shape, and sound
   pub accepted-sound : IsAccepted s → Sound (plan-of s)
-  accepted-sound a =
-      let h = accepted-exactly .0 a in
-      let u : Upheld (plan-of s) = h .1 in
-      let t = laid-tabled s (h .0) in
-      let f = conditions-exactly (plan-of s) t .1 u in
-      record {
-        shape = laid-in-shape s (h .0) (q-some (plan-of s) t (f .none-12));
-        processes = u .processes;
-        c0 = u .c0;
-        c1 = u .c1;
-        c2 = u .c2;
-        c3 = u .c3;
-        c4 = u .c4;
-      }
+  accepted-sound a = let h = accepted-exactly .0 a in judge.sound (plan-of s) (h .0 .tables) (h .1) q-is
 
   -- "the plan's tables stand beside it, with 0 past the counts, and all 0 after a refusal"
   pub nothing-of-the-plan : (k p : ℕ) → verdict s ≡ Refused k p → reading-of s .plan ≡ no-plan

@@ -3,11 +3,8 @@ ghost use mathlib.Core.Path.{_≡_};
 ghost use mathlib.Core.Bool.{true};
 ghost use Prim.Native.Nat.{_≤_};
 ghost use lib.ListN.{length};
-ghost use Rattle.plan.specs.Value.{counter-sum};
-ghost use Rattle.plan.specs.Faults.{CountsFit, Fault5};
-ghost use Rattle.plan.specs.Order.{Passes};
 ghost use Rattle.image.specs.Header.{good-format};
-ghost use Rattle.reader.specs.Tests.{from-5, from-6, no-plan, reading-of};
+ghost use Rattle.reader.specs.Tests.{no-plan, reading-of};
 ghost use Rattle.reader.specs.Steps.{with-plan, refusal-of};
 use judge::Answer;
 use plan::Plan;
@@ -49,73 +46,19 @@ fn refusal(number: u32) -> Reading
     }
 }
 
-// A refusal at a place of a table.
-fn refused_at(number: u32, place: usize) -> Answer
-    requires { ⌜ place ≤ 512 ⌝ }
-    ensures { λ r. ⌜ r ≡ Answer.Refused number place ⌝ }
-{
-    Answer::Refused {
-        number,
-        place: place as u32,
-    }
-}
-
-// Tests 6 to 8, and then the conditions.
-fn judged_from_6(plan: Plan) -> Answer
-    requires { ⌜ CountsFit plan × Passes (Fault5 plan) × (plan .q ≡ counter-sum plan 0) ⌝ }
-    ensures { λ r. ⌜ r ≡ from-6 plan ⌝ }
-{
-    let order = plan.order;
-    let counter = plan.counter;
-    let increment = plan.increment;
-    let source = plan.source;
-    let destination = plan.destination;
-    let tokens = plan.tokens;
-    let nodes = plan.nodes as usize;
-    let edges = plan.edges as usize;
-    let position = entries::first_bad_order(&order, nodes);
-    if position < nodes {
-        return refused_at(6, position);
-    }
-    let node = entries::first_bad_node(&counter, &increment, plan.counters as usize, nodes);
-    if node < nodes {
-        return refused_at(7, node);
-    }
-    let edge = entries::first_bad_edge(&source, &destination, &tokens, nodes, edges);
-    if edge < edges {
-        return refused_at(8, edge);
-    }
-    judge::judge(plan)
-}
-
-// Test 5, and what comes after it.
-fn judged_from_5(plan: Plan) -> Answer
-    requires { ⌜ CountsFit plan × (plan .q ≡ counter-sum plan 0) ⌝ }
-    ensures { λ r. ⌜ r ≡ from-5 plan ⌝ }
-{
-    let lengths = plan.lengths;
-    let nodes = plan.nodes as usize;
-    let processes = plan.processes as usize;
-    let empty = entries::first_zero_length(&lengths, processes);
-    if empty < processes {
-        return refused_at(5, empty);
-    }
-    let sum = plan::lengths_sum(&lengths, processes);
-    if sum == nodes {
-        return judged_from_6(plan);
-    }
-    refused_at(5, processes)
-}
-
-// The plan beside the answer that accepts it; nothing of it beside a refusal.
+// The plan beside the answer that accepts it, with that answer's Q; nothing of it beside a refusal.
 fn beside(answer: Answer, plan: Plan) -> Reading
     ensures { λ r. ⌜ r ≡ with-plan answer plan ⌝ }
 {
     match answer {
-        Answer::Accepted { q, modulus, least } => Reading {
-            answer: Answer::Accepted { q, modulus, least },
-            plan,
-        },
+        Answer::Accepted { q, modulus, least } => {
+            let mut filled = plan;
+            filled.q = q;
+            Reading {
+                answer: Answer::Accepted { q, modulus, least },
+                plan: filled,
+            }
+        }
         Answer::Refused { number, place } => Reading {
             answer: Answer::Refused { number, place },
             plan: empty_plan(),
@@ -153,7 +96,21 @@ fn read_counted(image: &[u8]) -> Reading
     }
     if image::offsets_fit(image) {
         let plan = image::plan_from(image);
-        return beside(judged_from_5(plan), plan);
+        let answer = judge::from_5(
+            plan.nodes as usize,
+            plan.processes as usize,
+            plan.edges as usize,
+            plan.counters as usize,
+            plan.modulus,
+            &plan.lengths,
+            &plan.order,
+            &plan.counter,
+            &plan.increment,
+            &plan.source,
+            &plan.destination,
+            &plan.tokens,
+        );
+        return beside(answer, plan);
     }
     refusal(4)
 }

@@ -2,17 +2,16 @@
 use borrow.Author.Needs.{needs}
 use mathlib.Core.Path.{sym, ap, _∙_}
 use Rattle.judge.specs.declared.Answer.the-variants.{Refused}
-use Rattle.reader.specs.Tests.{plan-beside}
-use Rattle.reader.specs.Steps.{with-plan}
+use Rattle.reader.specs.Steps.{filled, with-plan}
 use Rattle.reader.proofs.beside.Statement.{statement}
 use Rattle.reader.proofs.beside.Tie as tie
 
 returns : tie.Need-returns
-unfolding with-plan plan-beside
+unfolding with-plan filled
 returns c = sym (ap (λ a. with-plan a (c .before .before .before .args .plan)) (c .before .answer .given .1))
 
 returns-2 : tie.Need-returns-2
-unfolding with-plan plan-beside
+unfolding with-plan filled
 returns-2 c = let known = c .before .before .answer2 .given in
     ap (λ pl. record { answer = Refused (known .0 .0) (known .0 .1 .0); plan = pl }) (c .empty-plan .ensures)
     ∙ sym (ap (λ a. with-plan a (c .before .before .before .before .args .plan)) (known .1))
