@@ -27,9 +27,9 @@ use Rattle.machine.specs.declared.Reply.the-variants.{Fired}
 use Rattle.machine.specs.States.{fresh, mark, next-node, StateInShape}
 use Rattle.machine.specs.Calls.{begin-run, marks-left}
 use Rattle.machine.specs.Runs.{Call, turn}
-use Rattle.machine.specs.Bounds.{AllInBounds, AllFit32}
 use Rattle.machine.specs.Theorems as machine
 use Rattle.machine.specs.Theorems.{IsRefused}
+use Rattle.follow.specs.Bounds.{AllInBounds, AllFit32}
 use Rattle.follow.specs.Theorems as follow
 use Rattle.follow.specs.Theorems.{state-after, answers-after, fired-after, tokens-now}
 use Rattle.follow.specs.StandsFor.{Follows}

@@ -19,9 +19,9 @@ use Rattle.machine.specs.declared.Reply.{Reply}
 use Rattle.machine.specs.declared.Reply.the-variants.{Opened, Fired}
 use Rattle.machine.specs.States.{mark, next-node}
 use Rattle.machine.specs.Runs.{Call, replies, last-state, fired-by, fired-in, run-firings}
-use Rattle.machine.specs.Bounds.{AllInBounds}
 use Rattle.machine.specs.ByTest.{if-either}
 use Rattle.machine.specs.ShapeKept.{run-kept}
+use Rattle.follow.specs.Bounds.{AllInBounds}
 use Rattle.follow.specs.PlanSeats.{tokens-after, tables, some-node, shaped, every-cycle-holds, seats}
 use Rattle.follow.specs.StandsFor.{Follows}
 use Rattle.follow.specs.Listed.{listed}

@@ -12,9 +12,9 @@ use Rattle.plan.specs.declared.Plan.{Plan}
 use Rattle.plan.specs.Faults.{CountsFit}
 use Rattle.machine.specs.declared.State.{State}
 use Rattle.machine.specs.Runs.{Call, last-state}
-use Rattle.machine.specs.Bounds.{InBounds, AllInBounds, Fits32, AllFit32}
 use Rattle.machine.specs.ByTest.{if-either}
 use Rattle.machine.specs.KeptByCalls.{Kept}
+use Rattle.follow.specs.Bounds.{InBounds, AllInBounds, AllFit32}
 use Rattle.follow.specs.DriveCalls.{to-open, to-fire, opening, looks, drive, YetToSee}
 
 module _ (pl : Plan) where
@@ -46,7 +46,7 @@ module _ (pl : Plan) where
       unfolding AllInBounds looks firings
       looks-bounds [] known = tt
       looks-bounds (e ∷ es) known = (
-        record { code-most = omega arith; process-lt = h; edge-lt = known e (omega (arith, one-if-same-self e)) },
+        record { code-most = omega arith; process-lt = h; edge-lt = let k = known e (omega (arith, one-if-same-self e)) in omega arith },
         looks-bounds es (λ g some. known g (omega arith)),
       )
 

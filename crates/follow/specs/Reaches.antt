@@ -13,7 +13,7 @@ use Rattle.judge.specs.Sound.{Sound}
 use Rattle.machine.specs.declared.State.{State}
 use Rattle.machine.specs.States.{next-node, fresh}
 use Rattle.machine.specs.Runs.{Call, replies, last-state, fired-in, run-firings}
-use Rattle.machine.specs.Bounds.{AllInBounds}
+use Rattle.follow.specs.Bounds.{AllInBounds}
 use Rattle.follow.specs.PlanSeats.{tokens-after, shaped, every-cycle-holds}
 use Rattle.follow.specs.StandsFor.{Follows, fresh-follows}
 use Rattle.follow.specs.Follows.{run-follows}
@@ -77,7 +77,7 @@ module _ (pl : Plan) (sound : Sound pl) where
     lead-by-calls d a =
         let t = lead.lead-reached (graph-of pl) (graph-of pl .tokens) (shaped pl sound) (every-cycle-holds pl sound) m n h d a in
         let r = every-order-reached (t .0) (t .1) in
-        (r .calls, r .bounds, subst (λ s. firings n s ≡ firings m s + d) (sym (r .fires)) (omega (arith, t .2, t .3)))
+        (r .calls, r .bounds, rw (r .fires) (omega (arith, t .2, t .3)))
 
     -- and as far as one likes where no route leads from m to n
     pub free-by-calls : (Linked (graph-of pl) m n → ⊥) → (k : ℕ)

@@ -23,9 +23,9 @@ use Rattle.machine.specs.declared.Reply.the-variants.{Fired, Refused}
 use Rattle.machine.specs.States.{mark, next-node, fresh, Sized, StateInShape}
 use Rattle.machine.specs.Calls.{marks-left, both-fit}
 use Rattle.machine.specs.Runs.{Call, turn, replies, last-state, fired-in, run-firings}
-use Rattle.machine.specs.Bounds.{AllInBounds, AllFit32}
 use Rattle.machine.specs.ShapeKept as kept
 use Rattle.machine.specs.ShapeKept.{kept-exactly, reached-kept}
+use Rattle.follow.specs.Bounds.{AllInBounds, AllFit32}
 use Rattle.follow.specs.Counters.{added}
 use Rattle.follow.specs.PlanSeats.{tokens-after, counters, tables}
 use Rattle.follow.specs.StandsFor.{Follows}

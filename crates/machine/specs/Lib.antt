@@ -2,7 +2,6 @@
 pub mod States
 pub mod Calls
 pub mod Runs
-pub mod Bounds
 -- what is proved of the calls
 pub mod Theorems
 -- cases by a test

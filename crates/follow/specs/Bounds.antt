@@ -1,9 +1,9 @@
 -- Calls whose numbers are those of a plan. Definitions only.
 -- Assumes nothing.
 use mathlib.Core.List.{List, [], _∷_}
-use Prim.Native.Nat.{ℕ, _≤_, _<_, _^_}
+use Prim.Native.Nat.{_≤_, _<_, _^_}
 use Rattle.plan.specs.declared.Plan.{Plan}
 use Rattle.machine.specs.Runs.{Call}
 
 -- 01: "calls of four bytes: code (0 open, 1 look, 2 fire), process, edge": a code that 01 names, a process and an edge of the plan
 pub record InBounds (pl : Plan) (c : Call) : Type 0 where
