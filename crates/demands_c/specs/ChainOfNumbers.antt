@@ -7,7 +7,7 @@ use Prim.Native.Nat.{ℕ, _+_, _≤_, _<_}
 use native.Mathlib.Omega.{arith}
 use native.Mathlib.Decide.{decLt}
 use Rattle.loops.specs.Choice.{at, if}
-use Rattle.net.specs.Graph.{Fireable, Emptiest, Linked, firings}
+use Rattle.net.specs.Graph.{Fireable, Legal, Emptiest, Linked, firings}
 use Rattle.plan.specs.declared.Plan.{Plan}
 use Rattle.plan.specs.Value.{graph-of}
 use Rattle.judge.specs.Sound.{Sound}
@@ -62,6 +62,14 @@ pub chain-of-run : (pl : Plan) (cs : List Call) (st : State) → StepChain pl st
 unfolding replies last-state turn
 chain-of-run pl [] st = StepChain.done
 chain-of-run pl (c ∷ cs) st = StepChain.then (refl, refl) (chain-of-run pl cs (turn pl st c .state))
+
+-- and one only
+pub one-chain : {pl : Plan} {st end end′ : State} {cs : List Call} {ns ns′ : List CallAnswer} → StepChain pl st cs ns end → StepChain pl st cs ns′ end′
+    → (ns ≡ ns′) × (end ≡ end′)
+one-chain a b =
+    let x = numbers-of-run a in
+    let y = numbers-of-run b in
+    (x .0 ∙ sym (y .0), x .1 ∙ sym (y .1))
 
 -- a chain of results by value is one
 pub stepped-chain : {pl : Plan} {st end : State} {cs : List Call} {rs : List Stepped} → SteppedChain pl st cs rs end
@@ -246,3 +254,17 @@ module _ (pl : Plan) (sound : Sound pl) where
     unlinked-free-numbers m n h none k =
         let t = follow.unlinked-free pl sound m n h none k in
         (t .0, t .1, follow.bounds-fit pl sound (t .0) (t .1), λ ns end c. (ap (firings n) (nodes-from c) ∙ t .2, ap (firings m) (nodes-from c) ∙ t .3))
+
+    pub reaches-numbers : (t : List ℕ) → Legal (graph-of pl) (graph-of pl .tokens) t
+        → (cs : List Call) × AllInBounds pl cs × AllFit32 cs
+        × ((ns : List CallAnswer) (end : State) → StepChain pl st cs ns end → (nodes-fired ns ≡ t) × AllGoOn ns)
+    reaches-numbers t l =
+        let x = follow.reaches pl sound t l in (
+          x .calls,
+          x .bounds,
+          follow.bounds-fit pl sound (x .calls) (x .bounds),
+          λ ns end c. (
+            nodes-from c ∙ x .fires,
+            subst AllGoOn (sym (numbers-of-run (subst (λ y. StepChain pl y (x .calls) ns end) q c) .0)) (all-go-on (replies pl fresh (x .calls)) (x .goes)),
+          ),
+        )

@@ -27,6 +27,7 @@ use Rattle.machine.specs.States.{mark, next-node, fresh, StateInShape}
 use Rattle.machine.specs.Calls.{begin-run, marks-left, reading-call}
 use Rattle.machine.specs.Runs.{Call}
 use Rattle.follow.specs.Bounds.{AllInBounds, AllFit32}
+use Rattle.follow.specs.Theorems as follow
 use Rattle.follow.specs.Theorems.{state-after, answers-after, fired-after}
 use Rattle.follow.specs.PlanSeats.{tokens-after}
 use Rattle.follow.specs.StandsFor.{Follows}
@@ -40,7 +41,7 @@ use Rattle.tamsklor.specs.declared.Stepped.{Stepped}
 use Rattle.tamsklor.specs.Numbers.{numbers-of, numbers-of-reading, numbers-of-begin, numbers-of-reply, numbers-of-level}
 use Rattle.tamsklor.specs.Theorems as tamsklor
 use Rattle.tamsklor.specs.Unique.{StepPromise}
-use Rattle.demands_c.specs.InNumbers.{StepChain, SteppedChain, told-reply, told-level, told-reading, RefusedAlike, AcceptedAlike, nodes-fired, OpenInNumbers, LookInNumbers, DrivenInNumbers}
+use Rattle.demands_c.specs.InNumbers.{StepChain, SteppedChain, told-reply, told-level, told-reading, RefusedAlike, AcceptedAlike, nodes-fired, AllGoOn, OpenInNumbers, LookInNumbers, DrivenInNumbers}
 use Rattle.demands_c.specs.NumbersApart as apart
 use Rattle.demands_c.specs.CheckNumbers as check
 use Rattle.demands_c.specs.ChainOfNumbers as chain
@@ -127,6 +128,21 @@ pub refused-unchanged-c : (pl : Plan) (st : State) (c : Call) (n : CallAnswer) (
 refused-unchanged-c pl st c n after kept z =
     kept .1 ∙ tamsklor.refused-in-place pl st (c .code) (c .process) (c .edge) (ap (λ x. x .kind) (sym (kept .0)) ∙ z)
 
+-- ---- chains of calls, of any plan value and any state
+-- every list of calls has a chain of answers and states
+pub chain-there : (pl : Plan) (st : State) (cs : List Call) → (ns : List CallAnswer) × (end : State) × StepChain pl st cs ns end
+chain-there pl st cs = (_, _, chain.chain-of-run pl cs st)
+
+-- and one only
+pub chain-unique : {pl : Plan} {st end end′ : State} {cs : List Call} {ns ns′ : List CallAnswer} → StepChain pl st cs ns end → StepChain pl st cs ns′ end′
+    → (ns ≡ ns′) × (end ≡ end′)
+chain-unique = chain.one-chain
+
+-- a chain of results by value, of `tamsklor_run_stepped`, is such a chain: what is said of one is said of the other
+pub stepped-chain : {pl : Plan} {st end : State} {cs : List Call} {rs : List Stepped} → SteppedChain pl st cs rs end
+    → StepChain pl st cs (map (λ r. r .answer) rs) end
+stepped-chain = chain.stepped-chain
+
 -- ---- a run: what `tamsklor_plan_read` hands out for an accepted image, and `tamsklor_run_begin` for its plan
 module _ (s : List ℕ) (a : IsAccepted s) (r : PlanRead) (e : r ≡ numbers-of-reading (reading-of s)) (b : Begun) (f : b ≡ numbers-of-begin (begin-run (r .plan))) where
   -- the plan that C then holds is in shape, its processes are processes, and C0 to C4 hold
@@ -139,18 +155,9 @@ module _ (s : List ℕ) (a : IsAccepted s) (r : PlanRead) (e : r ≡ numbers-of-
       let q = chain.begins (r .plan) sound-c b f in
       (read-accepts s r e .1 a, chain.read-plan s r e a, ap (λ x. x .number) q, ap (λ x. x .state) q)
 
-  -- every list of calls has a chain of answers and states
-  pub chain-there : (cs : List Call) → (ns : List CallAnswer) × (end : State) × StepChain (r .plan) (b .state) cs ns end
-  chain-there cs = (_, _, chain.chain-of-run (r .plan) cs (b .state))
-
-  -- a chain of results by value is such a chain
-  pub stepped-c : {cs : List Call} {rs : List Stepped} {end : State} → SteppedChain (r .plan) (b .state) cs rs end
-      → StepChain (r .plan) (b .state) cs (map (λ r. r .answer) rs) end
-  stepped-c = chain.stepped-chain
-
-  module _ (cs : List Call) {ns : List CallAnswer} {end : State} (c : StepChain (r .plan) (b .state) cs ns end) where
+  module _ (cs : List Call) {ns : List CallAnswer} {end : State} (calls : StepChain (r .plan) (b .state) cs ns end) where
     from-fresh : StepChain (r .plan) fresh cs ns end
-    from-fresh = subst (λ st. StepChain (r .plan) st cs ns end) (begun-c .3) c
+    from-fresh = subst (λ st. StepChain (r .plan) st cs ns end) (begun-c .3) calls
 
     -- the chain is the run of its calls, of which all of `demands` speaks
     pub run-of-the-calls : (r .number ≡ 0) × (b .number ≡ 0) × (ns ≡ map numbers-of-reply (answers-after (plan-of s) cs)) × (end ≡ state-after (plan-of s) cs)
@@ -176,25 +183,25 @@ module _ (s : List ℕ) (a : IsAccepted s) (r : PlanRead) (e : r ≡ numbers-of-
     shape-kept-c = chain.in-shape (r .plan) sound-c end (nodes-fired ns) stands-c
 
     -- one call more
-    module _ (m : Call) (n : CallAnswer) (after : State) (kept : StepPromise (r .plan) end (m .code) (m .process) (m .edge) n after) where
+    module _ (c : Call) (n : CallAnswer) (after : State) (kept : StepPromise (r .plan) end (c .code) (c .process) (c .edge) n after) where
       -- "Open p: marks the synchronising in-edges of p's next node; answers how many."
-      pub open-exact-c : m .code ≡ 0 → m .process < r .plan .processes → at (end .opened) (m .process) ≡ 0 → OpenInNumbers (r .plan) end (m .process) n after
-      open-exact-c = chain.open-numbers (r .plan) sound-c end (nodes-fired ns) stands-c m n after kept
+      pub open-exact-c : c .code ≡ 0 → c .process < r .plan .processes → at (end .opened) (c .process) ≡ 0 → OpenInNumbers (r .plan) end (c .process) n after
+      open-exact-c = chain.open-numbers (r .plan) sound-c end (nodes-fired ns) stands-c c n after kept
 
       -- "a look at an edge still to be seen finds it exactly when Lamport's marked graph, fired in the same order, has a token there": kind 2
       -- exactly where it has one, kind 3 exactly where it has none
-      pub look-exact-c : m .code ≡ 1 → m .process < r .plan .processes → m .edge < 512 → mark end (m .process) (m .edge) ≡ 1
-          → LookInNumbers (tokens-after (r .plan) (nodes-fired ns) (m .edge)) (m .process) n after
-      look-exact-c = chain.look-numbers (r .plan) sound-c end (nodes-fired ns) stands-c m n after kept
+      pub look-exact-c : c .code ≡ 1 → c .process < r .plan .processes → c .edge < 512 → mark end (c .process) (c .edge) ≡ 1
+          → LookInNumbers (tokens-after (r .plan) (nodes-fired ns) (c .edge)) (c .process) n after
+      look-exact-c = chain.look-numbers (r .plan) sound-c end (nodes-fired ns) stands-c c n after kept
 
       -- "A fire succeeds exactly when the process is open with no edge left to see.": kind 4
-      pub fire-exact-c : m .code ≡ 2
-          → (n .kind ≡ 4) ↔ ((m .process < r .plan .processes) × (at (end .opened) (m .process) ≡ 1) × (marks-left end (m .process) ≡ 0))
-      fire-exact-c = chain.fire-numbers (r .plan) sound-c end (nodes-fired ns) stands-c m n after kept
+      pub fire-exact-c : c .code ≡ 2
+          → (n .kind ≡ 4) ↔ ((c .process < r .plan .processes) × (at (end .opened) (c .process) ≡ 1) × (marks-left end (c .process) ≡ 0))
+      fire-exact-c = chain.fire-numbers (r .plan) sound-c end (nodes-fired ns) stands-c c n after kept
 
       -- and then its value is the process's next node, all of whose in-edges hold a token
-      pub fires-fireable-c : m .code ≡ 2 → n .kind ≡ 4 → FireMeans (r .plan) end (tokens-after (r .plan) (nodes-fired ns)) (m .process) (n .value)
-      fires-fireable-c = chain.fired-means (r .plan) sound-c end (nodes-fired ns) stands-c m n after kept
+      pub fires-fireable-c : c .code ≡ 2 → n .kind ≡ 4 → FireMeans (r .plan) end (tokens-after (r .plan) (nodes-fired ns)) (c .process) (n .value)
+      fires-fireable-c = chain.fired-means (r .plan) sound-c end (nodes-fired ns) stands-c c n after kept
 
     -- ---- demand 3
     -- "if a route leads from node m to node n, n has fired at most as often as m plus the starting tokens on the emptiest such route"
@@ -208,6 +215,22 @@ module _ (s : List ℕ) (a : IsAccepted s) (r : PlanRead) (e : r ≡ numbers-of-
         × ((es : List ℕ) × YetToSee (r .plan) end p es × DrivenInNumbers (r .plan) end p (next-node (r .plan) end p) es)
     progress-c = chain.some-driven (r .plan) sound-c end (nodes-fired ns) stands-c
 
+    -- and so in whichever order it looks at them
+    pub any-order-c : (p : ℕ) → p < r .plan .processes
+        → Fireable (graph-of (r .plan)) (tokens-after (r .plan) (nodes-fired ns)) (next-node (r .plan) end p)
+        → (es : List ℕ) → YetToSee (r .plan) end p es → DrivenInNumbers (r .plan) end p (next-node (r .plan) end p) es
+    any-order-c = chain.driven-numbers (r .plan) sound-c end (nodes-fired ns) stands-c
+
+  -- the run of results by value
+  pub run-of-the-stepped : (cs : List Call) {rs : List Stepped} {end : State} → SteppedChain (r .plan) (b .state) cs rs end
+      → (map (λ r. r .answer) rs ≡ map numbers-of-reply (answers-after (plan-of s) cs)) × (end ≡ state-after (plan-of s) cs)
+  run-of-the-stepped cs calls = let k = run-of-the-calls cs (stepped-chain calls) in (k .2, k .3)
+
+  -- the emptiest route is there wherever a route is
+  pub emptiest-there-c : (m n : ℕ) → m < r .plan .nodes → Linked (graph-of (r .plan)) m n
+      → (d : ℕ) × Emptiest (graph-of (r .plan)) (graph-of (r .plan) .tokens) m n d
+  emptiest-there-c = follow.emptiest-there (r .plan) sound-c
+
   -- "and some sequence reaches that limit": calls that C can make, whatever numbers it is handed for them
   pub lead-reached-c : (m n d : ℕ) → n < r .plan .nodes → Emptiest (graph-of (r .plan)) (graph-of (r .plan) .tokens) m n d
       → (cs : List Call) × AllInBounds (r .plan) cs × AllFit32 cs
@@ -220,3 +243,9 @@ module _ (s : List ℕ) (a : IsAccepted s) (r : PlanRead) (e : r ≡ numbers-of-
       × ((ns : List CallAnswer) (end : State) → StepChain (r .plan) (b .state) cs ns end
       → (firings n (nodes-fired ns) ≡ k) × (firings m (nodes-fired ns) ≡ 0))
   unlinked-free-c m n h none k = chain.unlinked-free-numbers (r .plan) sound-c (b .state) (begun-c .3) m n h none k
+
+  -- no behaviour is lost: every legal firing order is what C sees fire for some calls that it can make, none refused and none waiting
+  pub reaches-c : (t : List ℕ) → Legal (graph-of (r .plan)) (graph-of (r .plan) .tokens) t
+      → (cs : List Call) × AllInBounds (r .plan) cs × AllFit32 cs
+      × ((ns : List CallAnswer) (end : State) → StepChain (r .plan) (b .state) cs ns end → (nodes-fired ns ≡ t) × AllGoOn ns)
+  reaches-c t l = chain.reaches-numbers (r .plan) sound-c (b .state) (begun-c .3) t l
