@@ -29,6 +29,7 @@ use Rattle.machine.specs.Calls.{begin-run, marks-left}
 use Rattle.machine.specs.Runs.{Call, turn}
 use Rattle.machine.specs.Theorems as machine
 use Rattle.machine.specs.Theorems.{IsRefused}
+use Rattle.follow.specs.Bounds.{AllInBounds, AllFit32}
 use Rattle.follow.specs.Theorems as follow
 use Rattle.follow.specs.Theorems.{state-after, answers-after, fired-after, tokens-now}
 use Rattle.follow.specs.StandsFor.{Follows}
@@ -131,17 +132,21 @@ module _ (s : List ℕ) (a : IsAccepted s) where
   pub emptiest-there : (m n : ℕ) → m < plan .nodes → Linked (graph-of plan) m n → (d : ℕ) × Emptiest (graph-of plan) (graph-of plan .tokens) m n d
   emptiest-there = follow.emptiest-there plan (reader.accepted-sound s a)
 
-  -- "and some sequence reaches that limit"
+  -- "and some sequence reaches that limit": of calls whose processes and edges are the plan's
   pub lead-reached : (m n d : ℕ) → n < plan .nodes → Emptiest (graph-of plan) (graph-of plan .tokens) m n d
-      → (cs : List Call) × (firings n (fired-after plan cs) ≡ firings m (fired-after plan cs) + d)
+      → (cs : List Call) × AllInBounds plan cs × (firings n (fired-after plan cs) ≡ firings m (fired-after plan cs) + d)
   lead-reached = follow.lead-reached plan (reader.accepted-sound s a)
 
   -- 01: "between them demand 3 sets no lead": where no route leads from m to n, n gets ahead as far as one likes
   pub unlinked-free : (m n : ℕ) → n < plan .nodes → (Linked (graph-of plan) m n → ⊥) → (k : ℕ)
-      → (cs : List Call) × (firings n (fired-after plan cs) ≡ k) × (firings m (fired-after plan cs) ≡ 0)
+      → (cs : List Call) × AllInBounds plan cs × (firings n (fired-after plan cs) ≡ k) × (firings m (fired-after plan cs) ≡ 0)
   unlinked-free = follow.unlinked-free plan (reader.accepted-sound s a)
 
-  -- the machine loses no behaviour: every legal firing order is the firings of a list of calls, none refused and none waiting
+  -- such calls are calls that C can make: their numbers fit 32 bits
+  pub bounds-fit : (cs : List Call) → AllInBounds plan cs → AllFit32 cs
+  bounds-fit = follow.bounds-fit plan (reader.accepted-sound s a)
+
+  -- the machine loses no behaviour: every legal firing order is the firings of a list of such calls, none refused and none waiting
   pub reaches : (t : List ℕ) → Legal (graph-of plan) (graph-of plan .tokens) t → Reached plan fresh t
   reaches = follow.reaches plan (reader.accepted-sound s a)
 

@@ -21,11 +21,13 @@ use Rattle.machine.specs.States.{mark, next-node}
 use Rattle.machine.specs.Runs.{Call, replies, last-state, fired-by, fired-in, run-firings}
 use Rattle.machine.specs.ByTest.{if-either}
 use Rattle.machine.specs.ShapeKept.{run-kept}
+use Rattle.follow.specs.Bounds.{AllInBounds}
 use Rattle.follow.specs.PlanSeats.{tokens-after, tables, some-node, shaped, every-cycle-holds, seats}
 use Rattle.follow.specs.StandsFor.{Follows}
 use Rattle.follow.specs.Listed.{listed}
 use Rattle.follow.specs.RunLaws.{fired-in-append}
 use Rattle.follow.specs.DriveCalls.{to-open, to-fire, opening, looks, drive, YetToSee, opening-answers, look-answers, drive-answers, AllOf, Goes, AllGo}
+use Rattle.follow.specs.InBounds.{drive-bounds}
 use Rattle.follow.specs.Drive.{drive-replies}
 
 -- ---- laws of the calls and the answers of a drive
@@ -82,9 +84,10 @@ drive-fires st p es v =
     ∙ ap (_++ (v ∷ [])) (looks-silent es)
 
 -- ---- what a drive does
--- process p, called alone, fires v: the calls are all of p, their answers are those of a drive, and v alone has fired
+-- process p, called alone, fires v: the calls are all of p and name edges of the plan, their answers are those of a drive, and v alone has fired
 pub record Driven (pl : Plan) (st : State) (p v : ℕ) (es : List ℕ) : Type 0 where
   pub alone : AllOf p (drive st p es)
+  pub bounds : AllInBounds pl (drive st p es)
   pub answers : replies pl st (drive st p es) ≡ drive-answers st p es v
   pub goes : AllGo (replies pl st (drive st p es))
   pub fires : run-firings pl st (drive st p es) ≡ v ∷ []
@@ -98,6 +101,7 @@ module _ (pl : Plan) (sound : Sound pl) (st : State) (s : List ℕ) (f : Follows
       let answers = drive-replies pl sound s p h st f may es l in
       record {
         alone = drive-all st p es;
+        bounds = drive-bounds pl (tables pl sound .counts) p h st es (run-kept pl (sound .shape) (opening st p) st (f .kept)) l;
         answers = answers;
         goes = subst AllGo (sym answers) (drive-goes st p es (next-node pl st p));
         fires = ap fired-in answers ∙ drive-fires st p es (next-node pl st p);

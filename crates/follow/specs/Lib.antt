@@ -15,6 +15,8 @@ pub mod FireExact
 pub mod Listed
 pub mod RunLaws
 pub mod DriveCalls
+pub mod Bounds
+pub mod InBounds
 pub mod Drive
 pub mod Driven
 pub mod Reaches

@@ -13,26 +13,30 @@ use Rattle.judge.specs.Sound.{Sound}
 use Rattle.machine.specs.declared.State.{State}
 use Rattle.machine.specs.States.{next-node, fresh}
 use Rattle.machine.specs.Runs.{Call, replies, last-state, fired-in, run-firings}
+use Rattle.follow.specs.Bounds.{AllInBounds}
 use Rattle.follow.specs.PlanSeats.{tokens-after, shaped, every-cycle-holds}
 use Rattle.follow.specs.StandsFor.{Follows, fresh-follows}
 use Rattle.follow.specs.Follows.{run-follows}
 use Rattle.follow.specs.RunLaws.{replies-append, run-firings-append}
 use Rattle.follow.specs.DriveCalls.{drive, AllGo}
+use Rattle.follow.specs.InBounds.{bounds-append}
 use Rattle.follow.specs.Driven.{AllGo-append, Driven, driven, yet-to-see, fireable-next}
 
--- calls that fire t from a state, none refused and none waiting
+-- calls that fire t from a state, each of a process and an edge of the plan, none refused and none waiting
 pub record Reached (pl : Plan) (st : State) (t : List ℕ) : Type 0 where
   pub calls : List Call
+  pub bounds : AllInBounds pl calls
   pub fires : run-firings pl st calls ≡ t
   pub goes : AllGo (replies pl st calls)
 
 module _ (pl : Plan) (sound : Sound pl) where
   -- calls that fire v, and calls that fire t after them
-  both : (st : State) (v : ℕ) (t : List ℕ) (cs : List Call) → run-firings pl st cs ≡ v ∷ [] → AllGo (replies pl st cs)
+  both : (st : State) (v : ℕ) (t : List ℕ) (cs : List Call) → AllInBounds pl cs → run-firings pl st cs ≡ v ∷ [] → AllGo (replies pl st cs)
       → Reached pl (last-state pl st cs) t → Reached pl st (v ∷ t)
-  both st v t cs fires goes r =
+  both st v t cs bounds fires goes r =
       record {
         calls = cs ++ r .calls;
+        bounds = bounds-append pl cs (r .calls) bounds (r .bounds);
         fires = run-firings-append pl cs (r .calls) st ∙ ap₂ _++_ fires (r .fires);
         goes = subst AllGo (sym (replies-append pl cs (r .calls) st)) (AllGo-append (replies pl st cs) (replies pl (last-state pl st cs) (r .calls)) goes (r .goes));
       }
@@ -46,8 +50,8 @@ module _ (pl : Plan) (sound : Sound pl) where
   -- from a state that stands for s, every order that is legal after s is reached
   pub reached-from : (t : List ℕ) (st : State) (s : List ℕ) → Follows pl sound st s
       → Legal (graph-of pl) (tokens-after pl s) t → Reached pl st t
-  unfolding Legal run-firings replies fired-in AllGo
-  reached-from [] st s f l = record { calls = []; fires = refl; goes = tt }
+  unfolding Legal run-firings replies fired-in AllGo AllInBounds
+  reached-from [] st s f l = record { calls = []; bounds = tt; fires = refl; goes = tt }
   reached-from (v ∷ t) st s f l =
       let next = fireable-next pl sound st s f v (l .0) (l .1) in
       let p = next .0 in
@@ -58,7 +62,7 @@ module _ (pl : Plan) (sound : Sound pl) where
       let fires : run-firings pl st cs ≡ v ∷ [] = d .fires ∙ ap (_∷ []) (next .2) in
       let g : Follows pl sound (last-state pl st cs) (s ++ (v ∷ [])) =
       subst (λ u. Follows pl sound (last-state pl st cs) (s ++ u)) fires (run-follows pl sound cs st s f) in
-      both st v t cs fires (d .goes)
+      both st v t cs (d .bounds) fires (d .goes)
       (reached-from t (last-state pl st cs) (s ++ (v ∷ [])) g (subst (λ μ. Legal (graph-of pl) μ t) (sym (tokens-on-from s v)) (l .2)))
 
   -- so is every legal order from a fresh state
@@ -69,16 +73,16 @@ module _ (pl : Plan) (sound : Sound pl) where
   module _ (m n : ℕ) (h : n < graph-of pl .nodes) where
     -- n gets ahead of m by the tokens of the emptiest route
     pub lead-by-calls : (d : ℕ) → Emptiest (graph-of pl) (graph-of pl .tokens) m n d
-        → (cs : List Call) × (firings n (run-firings pl fresh cs) ≡ firings m (run-firings pl fresh cs) + d)
+        → (cs : List Call) × AllInBounds pl cs × (firings n (run-firings pl fresh cs) ≡ firings m (run-firings pl fresh cs) + d)
     lead-by-calls d a =
         let t = lead.lead-reached (graph-of pl) (graph-of pl .tokens) (shaped pl sound) (every-cycle-holds pl sound) m n h d a in
         let r = every-order-reached (t .0) (t .1) in
-        (r .calls, subst (λ s. firings n s ≡ firings m s + d) (sym (r .fires)) (omega (arith, t .2, t .3)))
+        (r .calls, r .bounds, rw (r .fires) (omega (arith, t .2, t .3)))
 
     -- and as far as one likes where no route leads from m to n
     pub free-by-calls : (Linked (graph-of pl) m n → ⊥) → (k : ℕ)
-        → (cs : List Call) × (firings n (run-firings pl fresh cs) ≡ k) × (firings m (run-firings pl fresh cs) ≡ 0)
+        → (cs : List Call) × AllInBounds pl cs × (firings n (run-firings pl fresh cs) ≡ k) × (firings m (run-firings pl fresh cs) ≡ 0)
     free-by-calls none k =
         let t = lead.unlinked-free (graph-of pl) (graph-of pl .tokens) (shaped pl sound) (every-cycle-holds pl sound) m n h none k in
         let r = every-order-reached (t .0) (t .1) in
-        (r .calls, ap (firings n) (r .fires) ∙ t .3, ap (firings m) (r .fires) ∙ t .2)
+        (r .calls, r .bounds, ap (firings n) (r .fires) ∙ t .3, ap (firings m) (r .fires) ∙ t .2)

@@ -25,14 +25,16 @@ use Rattle.machine.specs.Calls.{marks-left, both-fit}
 use Rattle.machine.specs.Runs.{Call, turn, replies, last-state, fired-in, run-firings}
 use Rattle.machine.specs.ShapeKept as kept
 use Rattle.machine.specs.ShapeKept.{kept-exactly, reached-kept}
+use Rattle.follow.specs.Bounds.{AllInBounds, AllFit32}
 use Rattle.follow.specs.Counters.{added}
-use Rattle.follow.specs.PlanSeats.{tokens-after, counters}
+use Rattle.follow.specs.PlanSeats.{tokens-after, counters, tables}
 use Rattle.follow.specs.StandsFor.{Follows}
 use Rattle.follow.specs.Follows.{reached-follows}
 use Rattle.machine.specs.OpenExact.{OpenExact, open-is-exact}
 use Rattle.follow.specs.LookExact.{LookExact, look-is-exact}
 use Rattle.follow.specs.FireExact.{FireMeans, fire-fires, fire-exactly, chord-token}
 use Rattle.follow.specs.DriveCalls.{YetToSee}
+use Rattle.follow.specs.InBounds as bounds
 use Rattle.follow.specs.Driven as drives
 use Rattle.follow.specs.Driven.{Driven}
 use Rattle.follow.specs.Reaches.{Reached, every-order-reached, lead-by-calls, free-by-calls}
@@ -137,21 +139,25 @@ module _ (pl : Plan) (sound : Sound pl) (cs : List Call) where
       (t .0, t .1, t .2, (es .0, es .1, driven (t .0) (t .1) (t .2) (es .0) (es .1)))
 
 module _ (pl : Plan) (sound : Sound pl) where
-  -- every legal firing order is the firings of some list of calls of which none is refused and none waits
+  -- every legal firing order is the firings of some list of calls, each of a process and an edge of the plan, of which none is refused and none waits
   pub reaches : (t : List ℕ) → Legal (graph-of pl) (graph-of pl .tokens) t → Reached pl fresh t
   reaches = every-order-reached pl sound
 
   -- the limit of `lead` is reached
   pub lead-reached : (m n d : ℕ) → n < pl .nodes → Emptiest (graph-of pl) (graph-of pl .tokens) m n d
-      → (cs : List Call) × (firings n (fired-after pl cs) ≡ firings m (fired-after pl cs) + d)
+      → (cs : List Call) × AllInBounds pl cs × (firings n (fired-after pl cs) ≡ firings m (fired-after pl cs) + d)
   unfolding graph-of graph-of-tables
   lead-reached m n d h = lead-by-calls pl sound m n h d
 
   -- where no route leads from m to n, n gets ahead of m as far as one likes
   pub unlinked-free : (m n : ℕ) → n < pl .nodes → (Linked (graph-of pl) m n → ⊥) → (k : ℕ)
-      → (cs : List Call) × (firings n (fired-after pl cs) ≡ k) × (firings m (fired-after pl cs) ≡ 0)
+      → (cs : List Call) × AllInBounds pl cs × (firings n (fired-after pl cs) ≡ k) × (firings m (fired-after pl cs) ≡ 0)
   unfolding graph-of graph-of-tables
   unlinked-free m n h = free-by-calls pl sound m n h
+
+  -- calls in bounds are calls that C can make
+  pub bounds-fit : (cs : List Call) → AllInBounds pl cs → AllFit32 cs
+  bounds-fit = bounds.bounds-fit pl (tables pl sound .counts)
 
   -- wherever a route leads from m to n, there is an emptiest one
   pub emptiest-there : (m n : ℕ) → m < pl .nodes → Linked (graph-of pl) m n → (d : ℕ) × Emptiest (graph-of pl) (graph-of pl .tokens) m n d
