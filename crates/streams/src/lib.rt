@@ -4,6 +4,7 @@
 ghost use Rattle.streams.specs.Held.{Held};
 use libc::STDIN_FILENO;
 use libc::STDOUT_FILENO;
+use libc::types::timespec;
 
 // How many bytes were moved, or that a call failed.
 pub enum Got {
@@ -23,9 +24,17 @@ fn not_ready() -> bool {
     error == libc::EAGAIN
 }
 
-// Lets others run before a call is tried again.
+// Waits a millisecond, or until a signal comes.
 fn pause() {
-    libc::sched_yield();
+    let asked = timespec {
+        tv_sec: 0,
+        tv_nsec: 1000000,
+    };
+    let mut left = timespec {
+        tv_sec: 0,
+        tv_nsec: 0,
+    };
+    libc::nanosleep(&asked, &mut left);
 }
 
 // What a call on these bytes answered.
