@@ -1,7 +1,9 @@
 // Standard input, standard output and standard error for programs that never take an error for the end of the input or for success.
 // A call that a signal interrupts, and one that a non-blocking stream answers with "try again", is tried again; one that moves a part of the
 // bytes is continued.
-ghost use Rattle.streams.specs.Held.{Held};
+ghost use mathlib.Core.Path.{_≡_};
+ghost use lib.ListN.{length};
+ghost use Rattle.streams.specs.Held.{Held, answered};
 use libc::STDIN_FILENO;
 use libc::STDOUT_FILENO;
 use libc::types::timespec;
@@ -37,8 +39,9 @@ fn pause() {
     libc::nanosleep(&asked, &mut left);
 }
 
-// What a call on these bytes answered.
+// What a call on these bytes answered: a number below 0 is a failure, and no other is.
 fn counted(answer: isize, bytes: &[u8]) -> Got
+    ensures { λ r. ⌜ r ≡ answered answer (length (now (bytes .entry))) ⌝ }
     ensures { λ r. ⌜ Held r (now (bytes .entry)) ⌝ }
 {
     if answer < 0 {
