@@ -8,6 +8,7 @@ import os
 import resource
 import signal
 import socket
+import struct
 import subprocess
 import sys
 import tempfile
@@ -131,7 +132,7 @@ def run(program, source, sink=PIPE, told=True, waits=True, slowly=0.0, feed=None
     process = start(program, (source, outer if waits else nonblocking(outer), error if told else CLOSED), prepare)
     for descriptor in {source, outer, error} - {CLOSED}:
         os.close(descriptor)
-    feeder = threading.Thread(target=feed or (lambda: None))
+    feeder = threading.Thread(target=feed or (lambda process: None), args=(process,))
     watch = threading.Timer(LIMIT, process.kill)
     feeder.start()
     watch.start()
@@ -169,7 +170,24 @@ def through_pipe(program, parts, pause, waits=True):
     """A run whose input comes by a pipe, part after part; with WAITS false the pipe says "try again"."""
     inner, outer = os.pipe()
     source = inner if waits else nonblocking(inner)
-    return run(program, source, feed=lambda: fed(outer, parts, pause))
+    return run(program, source, feed=lambda process: fed(outer, parts, pause))
+
+
+def through_socket(program, limit, interrupt):
+    """A run whose input comes late by a socket on which a read waits at most LIMIT seconds; INTERRUPT stops the program on the way."""
+    ours, theirs = socket.socketpair()
+    theirs.setsockopt(socket.SOL_SOCKET, socket.SO_RCVTIMEO, struct.pack("ll", int(limit), int(limit % 1 * 1000000)))
+
+    def feed(process):
+        time.sleep(0.2)
+        if interrupt:
+            process.send_signal(signal.SIGSTOP)
+            time.sleep(0.05)
+            process.send_signal(signal.SIGCONT)
+            time.sleep(0.1)
+        fed(ours.detach(), [program.short], 0)
+
+    return run(program, theirs.detach(), feed=feed)
 
 
 def broken_source(data):
@@ -242,6 +260,8 @@ def try_not_ready(cases, program):
     cases.expect(program, "a non-blocking pipe with pauses", through_pipe(program, halves, 0.2, False), text, b"")
     cases.expect(program, "a non-blocking pipe, byte by byte", through_pipe(program, pieces(program.short, 1), 0.001, False), text, b"")
     cases.expect(program, "a non-blocking pipe that ends", through_pipe(program, [], 0.2, False), program.plain(b""), b"")
+    cases.expect(program, "a socket with a limit of time", through_socket(program, 0.05, False), text, b"")
+    cases.expect(program, "a read that a signal interrupts", through_socket(program, 10, True), text, b"")
     for case, waits in (("a slow reader", True), ("a slow reader of a non-blocking pipe", False)):
         late = run(program, file_of(program.large), waits=waits, slowly=0.001)
         cases.expect(program, case, late, program.large_text, b"")
