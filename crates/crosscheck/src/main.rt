@@ -1,11 +1,11 @@
 // Answers a long stream of inputs in one process, for comparison with the second program. The stream is, again and again, a length of four
 // bytes, the lower byte first, and that many bytes of `planrun`'s input. For each it writes a line `case K`, K from 0, and `planrun`'s text.
+// A read or a write that fails ends the stream and is told in one line on standard error.
 // The stored stream is what second/stored.c writes, and the stored answers are those of second/stream.c to it (second/README.md).
 ghost use mathlib.Core.Path.{_≡_};
 ghost use Prim.Native.Nat.{_≤_, _<_};
 ghost use lib.ListN.{length};
-use libc::STDIN_FILENO;
-use libc::STDOUT_FILENO;
+use streams::Got;
 use transcript::Printed;
 
 // A case's length, or the stream's end.
@@ -33,15 +33,47 @@ fn text_buffer() -> [u8; 409642]
     [0; 409642]
 }
 
+// Reads bytes of the stream, the buffer's length of them: fewer where the stream is cut. A read that fails is told and cuts it, too.
+fn read(buffer: &mut [u8]) -> usize {
+    let got = streams::read_all(buffer, b"crosscheck: cannot read standard input");
+    match got {
+        Got::Bytes { count } => count,
+        Got::Failed => 0,
+    }
+}
+
+// Writes a text: false where a write fails, which is told.
+fn print(text: &[u8]) -> bool {
+    streams::write_all(text, b"crosscheck: cannot write standard output")
+}
+
+// Writes a number in decimal digits.
+fn print_number(number: u64) -> bool {
+    let mut digits = [0u8; 20];
+    let count = io::decimal(number, &mut digits);
+    print(&digits[..count])
+}
+
+// Writes the line of a case.
+fn print_case(number: u64) -> bool {
+    if !print(b"case ") {
+        return false;
+    }
+    if !print_number(number) {
+        return false;
+    }
+    print(b"\n")
+}
+
 // Writes the whole text of an input.
-fn print_text(input: &[u8]) {
+fn print_text(input: &[u8]) -> bool {
     let mut out = text_buffer();
     let printed = transcript::transcript(input, &mut out);
     let Printed::Whole { length } = printed else {
         never();
-        return;
+        return false;
     };
-    io::write_all(STDOUT_FILENO, &out[..length]);
+    print(&out[..length])
 }
 
 // A byte of a length.
@@ -59,7 +91,7 @@ fn number_in(bytes: &[u8; 4]) -> usize {
 // The length of the next case. A stream that is cut in it has come to its end.
 fn next_case() -> Next {
     let mut bytes = [0u8; 4];
-    let got = io::read_full(STDIN_FILENO, &mut bytes);
+    let got = read(&mut bytes);
     if got < 4 {
         return Next::End;
     }
@@ -80,7 +112,7 @@ fn skip(length: usize) -> bool {
     let mut rest = length;
     while 0 < rest {
         let mut dropped = [0u8; 1];
-        let got = io::read_full(STDIN_FILENO, &mut dropped);
+        let got = read(&mut dropped);
         if got < 1 {
             return false;
         }
@@ -89,22 +121,21 @@ fn skip(length: usize) -> bool {
     true
 }
 
-// Reads a case, keeping what `planrun` would read, and answers it: false where the stream is cut in it.
+// Reads a case, keeping what `planrun` would read, and answers it: false where the stream is cut in it or a write fails.
 fn answer_case(number: u64, length: usize) -> bool {
     let mut input = input_buffer();
     let kept = least(length, 65537);
-    let got = io::read_full(STDIN_FILENO, &mut input[..kept]);
+    let got = read(&mut input[..kept]);
     if got < kept {
         return false;
     }
     if !skip(length - kept) {
         return false;
     }
-    io::write_all(STDOUT_FILENO, b"case ");
-    io::print_decimal(STDOUT_FILENO, number);
-    io::write_all(STDOUT_FILENO, b"\n");
-    print_text(&input[..kept]);
-    true
+    if !print_case(number) {
+        return false;
+    }
+    print_text(&input[..kept])
 }
 
 // Answers case after case, to the stream's end.

@@ -1,6 +1,6 @@
-// Reads at most 65,536 bytes of standard input, and one more to notice that there are more, and writes the whole text.
-use libc::STDIN_FILENO;
-use libc::STDOUT_FILENO;
+// Reads at most 65,536 bytes of standard input, and one more to notice that there are more, and writes the whole text. A read or a write that
+// fails is told in one line on standard error; after a read that fails nothing else is printed.
+use streams::Got;
 use transcript::Printed;
 
 // No call can meet this: where it stands nothing comes by.
@@ -16,11 +16,14 @@ fn print_text(input: &[u8]) {
         never();
         return;
     };
-    io::write_all(STDOUT_FILENO, &out[..length]);
+    streams::write_all(&out[..length], b"planrun: cannot write standard output");
 }
 
 fn main() {
     let mut input = [0u8; 65537];
-    let n = io::read_full(STDIN_FILENO, &mut input);
-    print_text(&input[..n]);
+    let got = streams::read_all(&mut input, b"planrun: cannot read standard input");
+    let Got::Bytes { count } = got else {
+        return;
+    };
+    print_text(&input[..count]);
 }

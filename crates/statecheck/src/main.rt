@@ -1,8 +1,9 @@
 // Answers a stream of made-up plan values, states and requests, for comparison with the second program. The stream is, again and again, a
 // length of four bytes and a record of that many bytes, at most 65,536; the record is described in `record.rt`. For each it writes a line
-// `case K`, K from 0, a line for each request, and the state that the requests leave. A stream that is cut has come to its end.
+// `case K`, K from 0, a line for each request, and the state that the requests leave. A stream that is cut has come to its end. A read or a
+// write that fails ends the stream and is told in one line on standard error; the records read before a failed read are answered.
 ghost use Prim.Native.Nat.{_≤_};
-use libc::STDIN_FILENO;
+use streams::Got;
 
 mod answers;
 mod record;
@@ -21,10 +22,19 @@ struct Done {
     place: usize,
 }
 
+// Reads bytes of the stream, the buffer's length of them: fewer where the stream is cut. A read that fails is told and cuts it, too.
+fn read(buffer: &mut [u8]) -> usize {
+    let got = streams::read_all(buffer, b"statecheck: cannot read standard input");
+    match got {
+        Got::Bytes { count } => count,
+        Got::Failed => 0,
+    }
+}
+
 // The length of the next record.
 fn next_record() -> Next {
     let mut bytes = [0u8; 4];
-    let got = io::read_full(STDIN_FILENO, &mut bytes);
+    let got = read(&mut bytes);
     if got < 4 {
         return Next::End;
     }
@@ -51,19 +61,19 @@ fn put_case(
     states::put_state(after, out, answered.place)
 }
 
-// Reads a record and puts its text. A record that is too long or cut ends the stream.
+// Reads a record and puts its text. A record that is too long or cut, and a write that fails, end the stream.
 fn answer_case(number: u32, length: usize, out: &mut [u8; 65536], place: usize) -> Done {
     if 65536 < length {
         return Done { more: false, place };
     }
     let mut record = io::large_buffer();
-    let got = io::read_full(STDIN_FILENO, &mut record[..length]);
+    let got = read(&mut record[..length]);
     if got < length {
         return Done { more: false, place };
     }
     let next = put_case(number, &record, length, out, place);
     Done {
-        more: true,
+        more: !text::is_lost(next),
         place: next,
     }
 }

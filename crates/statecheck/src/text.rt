@@ -1,5 +1,15 @@
-// Bytes, words and numbers collected in a buffer. A full buffer is written to standard output and begun again.
-use libc::STDOUT_FILENO;
+// Bytes, words and numbers collected in a buffer. A full buffer is written to standard output and begun again. Once a write has failed, which
+// is told, nothing more is put or written: the place then stays past the buffer's end.
+
+// Whether a write has failed.
+pub fn is_lost(place: usize) -> bool {
+    65536 < place
+}
+
+// Writes bytes: false where a write fails.
+fn write(bytes: &[u8]) -> bool {
+    streams::write_all(bytes, b"statecheck: cannot write standard output")
+}
 
 // One byte.
 pub fn put(out: &mut [u8; 65536], place: usize, byte: u8) -> usize {
@@ -7,7 +17,12 @@ pub fn put(out: &mut [u8; 65536], place: usize, byte: u8) -> usize {
         out[place] = byte;
         return place + 1;
     }
-    io::write_all(STDOUT_FILENO, out);
+    if is_lost(place) {
+        return place;
+    }
+    if !write(out) {
+        return 65537;
+    }
     out[0] = byte;
     1
 }
@@ -45,7 +60,7 @@ pub fn put_line(out: &mut [u8; 65536], place: usize, word: &[u8], n: u32) -> usi
 // Writes the bytes before a place.
 fn write_part(out: &[u8], place: usize) {
     if place <= out.len() {
-        io::write_all(STDOUT_FILENO, &out[..place]);
+        write(&out[..place]);
     }
 }
 

@@ -23,8 +23,8 @@ array-share-prefix-out c = let whole = c .before in
       answer .transcript .kept .1 .0,
     )
 
-slice-aggregate-write-all : tie.Need-slice-aggregate-write-all
-slice-aggregate-write-all c = sym (length-take-le _ _ (array-share-prefix-out (c .before)))
+slice-aggregate-print : tie.Need-slice-aggregate-print
+slice-aggregate-print c = sym (length-take-le _ _ (array-share-prefix-out (c .before)))
 
 returns-2 : tie.Need-returns-2
 returns-2 c = search needs
@@ -41,6 +41,6 @@ print-text-spec =
     never-requires
     returns
     array-share-prefix-out
-    slice-aggregate-write-all
+    slice-aggregate-print
     (λ c κs. search needs)
     returns-2)

@@ -44,5 +44,6 @@ print-text-spec =
     returns
     array-share-prefix-out
     slice-aggregate-write-all
+    (λ c. search needs)
     (λ c κs. search needs)
     returns-2)

@@ -11,8 +11,8 @@ returns c = search needs
 array-borrow-prefix-record : tie.Need-array-borrow-prefix-record
 array-borrow-prefix-record c = search needs
 
-slice-aggregate-read-full : tie.Need-slice-aggregate-read-full
-slice-aggregate-read-full c = sym (length-take-le _ _ (array-borrow-prefix-record (c .before)))
+slice-aggregate-read : tie.Need-slice-aggregate-read
+slice-aggregate-read c = sym (length-take-le _ _ (array-borrow-prefix-record (c .before)))
 
 returns-2 : tie.Need-returns-2
 returns-2 c = search needs
@@ -27,8 +27,9 @@ answer-case-spec =
     returns
     (λ c κs. search needs)
     array-borrow-prefix-record
-    slice-aggregate-read-full
+    slice-aggregate-read
     (λ c κs. search needs)
     returns-2
+    (λ c κs. search needs)
     (λ c κs. search needs)
     returns-3)

@@ -5,8 +5,8 @@ use lib.Seq.{length-take-le}
 use Rattle.statecheck.proofs.text.write_part.Statement.{statement}
 use Rattle.statecheck.proofs.text.write_part.Tie as tie
 
-slice-aggregate-write-all : tie.Need-slice-aggregate-write-all
-slice-aggregate-write-all c = sym (length-take-le _ _ (search needs))
+slice-aggregate-write : tie.Need-slice-aggregate-write
+slice-aggregate-write c = sym (length-take-le _ _ (search needs))
 
 returns : tie.Need-returns
 returns c = search needs
@@ -16,4 +16,4 @@ returns-2 c = search needs
 
 pub write-part-spec : {M : Type 1} → statement M
 write-part-spec =
-    tie.close (tie.spec slice-aggregate-write-all (λ c κs. search needs) returns returns-2)
+    tie.close (tie.spec slice-aggregate-write (λ c κs. search needs) returns returns-2)
