@@ -3,13 +3,7 @@
 
 #include "twin.h"
 
-enum {
-    HEADER_BYTES = 36,
-    MOST_MODULUS = 2000000000,
-    MOST_INCREMENT = 255,
-    MOST_TOKENS = 1000,
-    NO_ROUTE = 100000 /* 64 edges of 1,000 tokens hold fewer */
-};
+enum { NO_ROUTE = 100000 }; /* 64 edges of 1,000 tokens hold fewer */
 
 /* What is worked out of a plan. */
 struct found {
@@ -48,18 +42,18 @@ static int counts_fit(const TamsklorPlan *plan)
            !outside(plan->processes, TAMSKLOR_PROCESSES) &&
            !outside(plan->edges, TAMSKLOR_EDGES) &&
            !outside(plan->counters, TAMSKLOR_COUNTERS) &&
-           !outside(plan->modulus, MOST_MODULUS);
+           !outside(plan->modulus, TAMSKLOR_MODULUS_MOST);
 }
 
 /* 4: an offset, the total or the length is not what the counts give. */
 static int offsets_fit(const TamsklorPlan *plan, const uint8_t *image,
                        size_t length)
 {
-    uint32_t order = HEADER_BYTES + 2u * plan->processes;
+    uint32_t order = TAMSKLOR_HEADER_BYTES + 2u * plan->processes;
     uint32_t nodes = order + 2u * plan->nodes;
     uint32_t edges = nodes + 4u * plan->nodes;
     uint32_t total = edges + 6u * plan->edges;
-    return quad_at(image + 16) == HEADER_BYTES &&
+    return quad_at(image + 16) == TAMSKLOR_HEADER_BYTES &&
            quad_at(image + 20) == order && quad_at(image + 24) == nodes &&
            quad_at(image + 28) == edges && quad_at(image + 32) == total &&
            length == total;
@@ -67,7 +61,7 @@ static int offsets_fit(const TamsklorPlan *plan, const uint8_t *image,
 
 static void read_tables(TamsklorPlan *plan, const uint8_t *image)
 {
-    const uint8_t *at = image + HEADER_BYTES;
+    const uint8_t *at = image + TAMSKLOR_HEADER_BYTES;
     uint32_t nodes = plan->nodes;
     uint32_t processes = plan->processes;
     uint32_t edges = plan->edges;
@@ -115,7 +109,7 @@ static int test_7(const TamsklorPlan *plan)
 {
     for (uint32_t i = 0; i < plan->nodes; i++)
         if (plan->counter[i] >= plan->counters ||
-            plan->increment[i] > MOST_INCREMENT)
+            plan->increment[i] > TAMSKLOR_INCREMENT_MOST)
             return (int)i;
     return -1;
 }
@@ -129,7 +123,7 @@ static int test_8(const TamsklorPlan *plan)
         uint32_t source = plan->source[i], target = plan->destination[i];
         int64_t ends = (int64_t)(source << 16 | target);
         if ((source >= nodes) | (target >= nodes) |
-            (plan->tokens[i] > MOST_TOKENS) | (ends <= before))
+            (plan->tokens[i] > TAMSKLOR_TOKENS_MOST) | (ends <= before))
             return (int)i;
         before = ends;
     }
@@ -336,7 +330,7 @@ static TamsklorVerdict judge(TamsklorPlan *plan)
 static TamsklorVerdict read_image(const uint8_t *image, size_t length,
                                   TamsklorPlan *plan)
 {
-    if (length < HEADER_BYTES)
+    if (length < TAMSKLOR_HEADER_BYTES)
         return verdict(TAMSKLOR_PLAN_HEADER_CUT, 0, 0);
     if (pair_at(image) != 1 || pair_at(image + 10) != 0)
         return verdict(TAMSKLOR_PLAN_FORMAT_WRONG, 0, 0);

@@ -265,6 +265,8 @@ int main(int arguments, char **argument)
     int least = arguments > 1 && strcmp(argument[1], "least") == 0;
     make_stack();
     draw_all();
+    printf("stacks: %u images, %u calls\n", (unsigned)image_count,
+           (unsigned)scene_count);
     check_floor("images", image_count, 100);
     check_floor("calls", scene_count, MOST_SCENES);
     for (uint32_t i = 0; i < EXPORTS; i++) {
