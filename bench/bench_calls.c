@@ -1,13 +1,15 @@
 /* The calls of a run beside their C twins on the same plans and states.
 
-     time       nanoseconds of each call: in place (0 where the archive has
-                none), its twin, by value, its twin
+     time       nanoseconds of each call: plan and state by pointer, its
+                twin, by value (0 for a reading and a beginning, which the
+                archive has by pointer only), its twin
      stack      bytes by value and stack used, the most over all plans and
                 calls
      cases      plan and call of each measurement
      once WHO   each call once on each of 8 states, between two marks, to
-                count instructions there; WHO is run_step, twin_step (in
-                place), or run_stepped, twin_stepped (by value) */
+                count instructions there; WHO is tamsklor_run_step, twin_step
+                (by pointer), or tamsklor_run_stepped, twin_stepped (by
+                value) */
 #include <stdio.h>
 #include <string.h>
 
@@ -17,76 +19,76 @@
 
 enum { BLOCKS = 24, CALLS = 40 /* of a state in a block */ };
 
-static struct run_begun begun;
-static struct run_stepped stepped;
+static TamsklorBegun begun;
+static TamsklorStepped stepped;
 
 /* What a run's call has changed is put back: the next call finds the same. */
-static void put_back(struct run_state *state, const struct run_state *before,
+static void put_back(TamsklorState *state, const TamsklorState *before,
                      uint32_t p)
 {
     if (state->turn == before->turn)
         return;
     state->positions[p] = before->positions[p];
     state->opened[p] = before->opened[p];
-    memcpy(state->marks[p], before->marks[p], sizeof state->marks[p]);
+    memcpy(state->marks + TAMSKLOR_MARK(p, 0),
+           before->marks + TAMSKLOR_MARK(p, 0), TAMSKLOR_EDGES);
     memcpy(state->counters, before->counters, sizeof state->counters);
     state->turn = before->turn;
 }
 
 /* Each way answers one call on a scene; `work` is a copy of its state. */
 typedef uint32_t (*way)(enum scene_case, const struct scene *,
-                        struct run_state *work);
+                        TamsklorState *work);
 
 static uint32_t in_place(enum scene_case kind, const struct scene *s,
-                         struct run_state *work)
+                         TamsklorState *work)
 {
     uint32_t value;
-    (void)kind;
-    value = run_step(&s->plan, work, s->code, s->process, s->edge).value;
+    if (kind == SCENE_TOKENS)
+        return tamsklor_run_tokens(&s->plan, work, s->edge).count;
+    if (kind == SCENE_BEGIN) {
+        begun = tamsklor_run_begin(&s->plan);
+        return begun.number;
+    }
+    value =
+        tamsklor_run_step(&s->plan, work, s->code, s->process, s->edge).value;
     put_back(work, &s->state, s->process);
     return value;
 }
 
 static uint32_t twin_in_place(enum scene_case kind, const struct scene *s,
-                              struct run_state *work)
+                              TamsklorState *work)
 {
     uint32_t value;
     if (kind == SCENE_TOKENS)
         return twin_tokens(&s->plan, work, s->edge).count;
-    if (kind == SCENE_BEGIN)
-        return twin_begin(&s->plan, work);
+    if (kind == SCENE_BEGIN) {
+        begun = twin_begun(&s->plan);
+        return begun.number;
+    }
     value = twin_step(&s->plan, work, s->code, s->process, s->edge).value;
     put_back(work, &s->state, s->process);
     return value;
 }
 
 static uint32_t by_value(enum scene_case kind, const struct scene *s,
-                         struct run_state *work)
+                         TamsklorState *work)
 {
-    if (kind == SCENE_TOKENS)
-        return run_tokens(s->plan, *work, s->edge).count;
-    if (kind == SCENE_BEGIN) {
-        begun = run_begin(s->plan);
-        return begun.number;
-    }
-    stepped = run_stepped(s->plan, *work, s->code, s->process, s->edge);
+    (void)kind;
+    stepped =
+        tamsklor_run_stepped(s->plan, *work, s->code, s->process, s->edge);
     return stepped.answer.value;
 }
 
 static uint32_t twin_by_value(enum scene_case kind, const struct scene *s,
-                              struct run_state *work)
+                              TamsklorState *work)
 {
-    if (kind == SCENE_TOKENS)
-        return twin_tokens_by_value(s->plan, *work, s->edge).count;
-    if (kind == SCENE_BEGIN) {
-        begun = twin_begun(s->plan);
-        return begun.number;
-    }
+    (void)kind;
     stepped = twin_stepped(s->plan, *work, s->code, s->process, s->edge);
     return stepped.answer.value;
 }
 
-static struct run_state work;
+static TamsklorState work;
 
 /* So many calls on each state of a case. */
 static void repeat(way way, uint32_t plan, enum scene_case kind,
@@ -111,19 +113,26 @@ static double time_of(way way, uint32_t plan, enum scene_case kind,
     return lower(best, (now() - began) / (SCENE_RUNS * CALLS));
 }
 
+/* The archive has only the calls by value, no reading and no beginning. */
+static int has_by_value(enum scene_case kind)
+{
+    return kind != SCENE_TOKENS && kind != SCENE_BEGIN;
+}
+
 static void show_time(uint32_t plan, enum scene_case kind)
 {
-    int placed = kind != SCENE_TOKENS && kind != SCENE_BEGIN;
+    int valued = has_by_value(kind);
     double host = 1e18, twin = 1e18, host_value = 1e18, twin_value = 1e18;
     for (int block = 0; block < BLOCKS; block++) {
-        if (placed)
-            host = time_of(in_place, plan, kind, host);
+        host = time_of(in_place, plan, kind, host);
         twin = time_of(twin_in_place, plan, kind, twin);
-        host_value = time_of(by_value, plan, kind, host_value);
-        twin_value = time_of(twin_by_value, plan, kind, twin_value);
+        if (valued) {
+            host_value = time_of(by_value, plan, kind, host_value);
+            twin_value = time_of(twin_by_value, plan, kind, twin_value);
+        }
     }
-    printf("%.0f %.0f %.0f %.0f\n", placed ? host : 0, twin, host_value,
-           twin_value);
+    printf("%.0f %.0f %.0f %.0f\n", host, twin, valued ? host_value : 0,
+           valued ? twin_value : 0);
 }
 
 static void show_times(void)
@@ -138,7 +147,8 @@ static void call_once(way way)
     for (uint32_t plan = 0; plan < SCENE_PLANS; plan++)
         for (uint32_t kind = 0; kind < SCENE_CASES; kind++) {
             mark();
-            if (way != in_place || kind < SCENE_TOKENS)
+            if (way == in_place || way == twin_in_place ||
+                has_by_value((enum scene_case)kind))
                 repeat(way, plan, (enum scene_case)kind, 1);
             mark();
         }
@@ -159,7 +169,8 @@ static void call_step(void)
 {
     volatile uint8_t here = 0;
     stack_begins(&here);
-    run_step(&lent->plan, &work, lent->code, lent->process, lent->edge);
+    tamsklor_run_step(&lent->plan, &work, lent->code, lent->process,
+                      lent->edge);
 }
 
 static void call_twin_step(void)
@@ -173,39 +184,39 @@ static void call_tokens(void)
 {
     volatile uint8_t here = 0;
     stack_begins(&here);
-    run_tokens(lent->plan, work, lent->edge);
+    tamsklor_run_tokens(&lent->plan, &work, lent->edge);
 }
 
 static void call_twin_tokens(void)
 {
     volatile uint8_t here = 0;
     stack_begins(&here);
-    twin_tokens_by_value(lent->plan, work, lent->edge);
+    twin_tokens(&lent->plan, &work, lent->edge);
 }
 
-static struct run_begun begin_here(void)
+static TamsklorBegun begin_here(void)
 {
     volatile uint8_t here = 0;
     stack_begins(&here);
-    return run_begin(lent->plan);
+    return tamsklor_run_begin(&lent->plan);
 }
 
-static struct run_begun begin_twin_here(void)
+static TamsklorBegun begin_twin_here(void)
 {
     volatile uint8_t here = 0;
     stack_begins(&here);
-    return twin_begun(lent->plan);
+    return twin_begun(&lent->plan);
 }
 
-static struct run_stepped step_here(void)
+static TamsklorStepped step_here(void)
 {
     volatile uint8_t here = 0;
     stack_begins(&here);
-    return run_stepped(lent->plan, work, lent->code, lent->process,
-                       lent->edge);
+    return tamsklor_run_stepped(lent->plan, work, lent->code, lent->process,
+                                lent->edge);
 }
 
-static struct run_stepped step_twin_here(void)
+static TamsklorStepped step_twin_here(void)
 {
     volatile uint8_t here = 0;
     stack_begins(&here);
@@ -213,8 +224,8 @@ static struct run_stepped step_twin_here(void)
                         lent->edge);
 }
 
-static struct run_begun (*volatile beginner)(void);
-static struct run_stepped (*volatile stepper)(void);
+static TamsklorBegun (*volatile beginner)(void);
+static TamsklorStepped (*volatile stepper)(void);
 
 static void call_begin(void)
 {
@@ -240,21 +251,24 @@ static void call_twin_stepped(void)
     stepped = stepper();
 }
 
-enum { BOTH_BYTES = PLAN_VALUE_BYTES + RUN_STATE_BYTES };
+enum { BOTH_BYTES = TAMSKLOR_PLAN_BYTES + TAMSKLOR_STATE_BYTES };
 
 static struct {
     const char *name;
     void (*call)(void);
-    unsigned taken; /* bytes by value */
+    unsigned taken;  /* bytes by value */
+    unsigned stated; /* tamsklor.h's figure; 0 for a twin */
     size_t most;
-} stacks[] = {{"run_begin", call_begin, PLAN_VALUE_BYTES, 0},
-              {"twin_begun", call_twin_begun, PLAN_VALUE_BYTES, 0},
-              {"run_step", call_step, 0, 0},
-              {"twin_step", call_twin_step, 0, 0},
-              {"run_stepped", call_stepped, BOTH_BYTES, 0},
-              {"twin_stepped", call_twin_stepped, BOTH_BYTES, 0},
-              {"run_tokens", call_tokens, BOTH_BYTES, 0},
-              {"twin_tokens_by_value", call_twin_tokens, BOTH_BYTES, 0}};
+} stacks[] = {
+    {"tamsklor_run_begin", call_begin, 0, TAMSKLOR_RUN_BEGIN_STACK, 0},
+    {"twin_begun", call_twin_begun, 0, 0, 0},
+    {"tamsklor_run_step", call_step, 0, TAMSKLOR_RUN_STEP_STACK, 0},
+    {"twin_step", call_twin_step, 0, 0, 0},
+    {"tamsklor_run_stepped", call_stepped, BOTH_BYTES,
+     TAMSKLOR_RUN_STEPPED_STACK, 0},
+    {"twin_stepped", call_twin_stepped, BOTH_BYTES, 0, 0},
+    {"tamsklor_run_tokens", call_tokens, 0, TAMSKLOR_RUN_TOKENS_STACK, 0},
+    {"twin_tokens", call_twin_tokens, 0, 0, 0}};
 enum { STACKS = sizeof stacks / sizeof stacks[0] };
 
 static void measure_stack(uint32_t stack)
@@ -274,6 +288,8 @@ static void show_stack(void)
         measure_stack(i);
         printf("%s %u %lu\n", stacks[i].name, stacks[i].taken,
                (unsigned long)stacks[i].most);
+        if (stacks[i].stated && stacks[i].most > stacks[i].stated)
+            give_up("a call uses more stack than tamsklor.h says");
     }
 }
 
@@ -282,9 +298,9 @@ int main(int arguments, char **argument)
     static const struct {
         const char *name;
         way way;
-    } ways[] = {{"run_step", in_place},
+    } ways[] = {{"tamsklor_run_step", in_place},
                 {"twin_step", twin_in_place},
-                {"run_stepped", by_value},
+                {"tamsklor_run_stepped", by_value},
                 {"twin_stepped", twin_by_value}};
     const char *what = arguments > 1 ? argument[1] : "";
     scenes_draw();

@@ -1,14 +1,16 @@
-/* plan_check and plan_read beside their C twins on the same plans.
+/* tamsklor_plan_check and tamsklor_plan_read beside their C twins on the same
+   plans.
 
      answers     the same answers on drawn images, refused ones too
-     time        nanoseconds of plan_check, its twin, plan_read and its twin,
-                 a line a shape
+     time        nanoseconds of tamsklor_plan_check, its twin,
+                 tamsklor_plan_read and its twin, a line a shape
      stack       bytes by value (none) and stack used, the most over drawn
                  images and all shapes
      shapes      name, nodes, processes, edges of each shape
      once WHO    one call on each of the 8 plans of each shape between two
-                 marks, to count instructions there; WHO is plan_check,
-                 twin_check, plan_read or twin_read */
+                 marks, to count instructions there; WHO is
+                 tamsklor_plan_check, twin_check, tamsklor_plan_read or
+                 twin_read */
 #include <stdio.h>
 #include <string.h>
 
@@ -23,7 +25,7 @@ enum {
     BLOCK_STEPS = 1000000 /* of relaxation in a block, about */
 };
 
-typedef struct plan_verdict (*checker)(const uint8_t *, size_t);
+typedef TamsklorVerdict (*checker)(const uint8_t *, size_t);
 
 /* How the cost grows by nodes at three edges a node, and by edges at 64 nodes
    (64 edges: process edges only; slow: as many rounds as there can be). */
@@ -37,7 +39,7 @@ enum { SHAPES = sizeof shapes / sizeof shapes[0] };
 
 static struct picture plan[PLANS];
 
-static int same(struct plan_verdict a, struct plan_verdict b)
+static int same(TamsklorVerdict a, TamsklorVerdict b)
 {
     return a.number == b.number && a.place == b.place && a.least == b.least;
 }
@@ -48,11 +50,11 @@ static void draw_plans(uint32_t shape)
     static struct sketch sketch;
     struct random random = {20240229};
     for (uint32_t i = 0; i < PLANS; i++) {
-        struct plan_verdict got;
+        TamsklorVerdict got;
         draw_shape(&shapes[shape], &random, &sketch);
         sketch_picture(&sketch, &plan[i]);
-        got = plan_check(plan[i].bytes, plan[i].length);
-        if (got.number != PLAN_ACCEPTED ||
+        got = tamsklor_plan_check(plan[i].bytes, plan[i].length);
+        if (got.number != TAMSKLOR_PLAN_ACCEPTED ||
             !same(got, twin_check(plan[i].bytes, plan[i].length)))
             give_up("a plan to measure with is not accepted");
     }
@@ -77,14 +79,14 @@ static unsigned long answered;
 
 static void compare_answers(const struct picture *picture)
 {
-    static struct plan_reading host, twin;
-    if (!same(plan_check(picture->bytes, picture->length),
+    static TamsklorPlanRead host, twin;
+    if (!same(tamsklor_plan_check(picture->bytes, picture->length),
               twin_check(picture->bytes, picture->length)))
-        give_up("plan_check and its twin differ");
-    host = plan_read(picture->bytes, picture->length);
+        give_up("tamsklor_plan_check and its twin differ");
+    host = tamsklor_plan_read(picture->bytes, picture->length);
     twin = twin_read(picture->bytes, picture->length);
     if (memcmp(&host, &twin, sizeof host) != 0)
-        give_up("plan_read and its twin differ");
+        give_up("tamsklor_plan_read and its twin differ");
     answered++;
 }
 
@@ -95,25 +97,24 @@ static void show_answers(void)
            answered);
 }
 
-static struct plan_reading reading;
+static TamsklorPlanRead reading;
 
-static struct plan_verdict verdict_of(const struct plan_reading *from)
+static TamsklorVerdict verdict_of(const TamsklorPlanRead *from)
 {
-    struct plan_verdict verdict;
+    TamsklorVerdict verdict;
     verdict.number = from->number;
     verdict.place = from->place;
     verdict.least = from->least;
     return verdict;
 }
 
-static struct plan_verdict check_by_read(const uint8_t *image, size_t length)
+static TamsklorVerdict check_by_read(const uint8_t *image, size_t length)
 {
-    reading = plan_read(image, length);
+    reading = tamsklor_plan_read(image, length);
     return verdict_of(&reading);
 }
 
-static struct plan_verdict check_by_twin_read(const uint8_t *image,
-                                              size_t length)
+static TamsklorVerdict check_by_twin_read(const uint8_t *image, size_t length)
 {
     reading = twin_read(image, length);
     return verdict_of(&reading);
@@ -122,9 +123,9 @@ static struct plan_verdict check_by_twin_read(const uint8_t *image,
 static const struct {
     const char *name;
     checker check;
-} checkers[] = {{"plan_check", plan_check},
+} checkers[] = {{"tamsklor_plan_check", tamsklor_plan_check},
                 {"twin_check", twin_check},
-                {"plan_read", check_by_read},
+                {"tamsklor_plan_read", check_by_read},
                 {"twin_read", check_by_twin_read}};
 enum { CHECKERS = 4 };
 
@@ -167,7 +168,7 @@ static void call_check(void)
 {
     volatile uint8_t here = 0;
     stack_begins(&here);
-    plan_check(lent->bytes, lent->length);
+    tamsklor_plan_check(lent->bytes, lent->length);
 }
 
 static void call_twin_check(void)
@@ -177,14 +178,14 @@ static void call_twin_check(void)
     twin_check(lent->bytes, lent->length);
 }
 
-static struct plan_reading read_here(void)
+static TamsklorPlanRead read_here(void)
 {
     volatile uint8_t here = 0;
     stack_begins(&here);
-    return plan_read(lent->bytes, lent->length);
+    return tamsklor_plan_read(lent->bytes, lent->length);
 }
 
-static struct plan_reading read_twin_here(void)
+static TamsklorPlanRead read_twin_here(void)
 {
     volatile uint8_t here = 0;
     stack_begins(&here);
@@ -192,7 +193,7 @@ static struct plan_reading read_twin_here(void)
 }
 
 /* Through pointers, so that the reading itself lies above what is counted. */
-static struct plan_reading (*volatile reader)(void);
+static TamsklorPlanRead (*volatile reader)(void);
 
 static void call_read(void)
 {
@@ -209,11 +210,13 @@ static void call_twin_read(void)
 static struct {
     const char *name;
     void (*call)(void);
+    unsigned stated; /* tamsklor.h's figure; 0 for a twin */
     size_t most;
-} stacks[] = {{"plan_check", call_check, 0},
-              {"twin_check", call_twin_check, 0},
-              {"plan_read", call_read, 0},
-              {"twin_read", call_twin_read, 0}};
+} stacks[] = {
+    {"tamsklor_plan_check", call_check, TAMSKLOR_PLAN_CHECK_STACK, 0},
+    {"twin_check", call_twin_check, 0, 0},
+    {"tamsklor_plan_read", call_read, TAMSKLOR_PLAN_READ_STACK, 0},
+    {"twin_read", call_twin_read, 0, 0}};
 enum { STACKS = sizeof stacks / sizeof stacks[0] };
 
 static void measure_stack(const struct picture *picture)
@@ -231,9 +234,11 @@ static void show_stack(void)
             measure_stack(&plan[j]);
     }
     for_each_damage(4, measure_stack);
-    for (uint32_t i = 0; i < STACKS; i++)
-        printf("%s 0 %lu\n", stacks[i].name,
-               (unsigned long)stacks[i].most);
+    for (uint32_t i = 0; i < STACKS; i++) {
+        printf("%s 0 %lu\n", stacks[i].name, (unsigned long)stacks[i].most);
+        if (stacks[i].stated && stacks[i].most > stacks[i].stated)
+            give_up("a call uses more stack than tamsklor.h says");
+    }
 }
 
 /* One call on each plan of each shape. */

@@ -18,8 +18,8 @@ static unsigned long calls, readings, begins;
 static unsigned long kinds[KINDS];     /* answers of calls, by kind */
 static unsigned long refused[NUMBERS]; /* calls and readings, by number */
 
-static struct plan_value plan;
-static struct run_state state;
+static TamsklorPlan plan;
+static TamsklorState state;
 
 static uint16_t held(uint32_t count)
 {
@@ -54,12 +54,12 @@ static void take_state(const struct second_state *from)
     state.turn = from->turn;
 }
 
-static int same_answer(struct run_answer a, struct run_answer b)
+static int same_answer(TamsklorCallAnswer a, TamsklorCallAnswer b)
 {
     return a.kind == b.kind && a.value == b.value;
 }
 
-static int same_state(const struct run_state *a, const struct run_state *b)
+static int same_state(const TamsklorState *a, const TamsklorState *b)
 {
     return memcmp(a, b, sizeof *a) == 0;
 }
@@ -67,13 +67,13 @@ static int same_state(const struct run_state *a, const struct run_state *b)
 /* One call in all four ways; the state goes on. */
 static void compare_step(uint32_t code, uint32_t process, uint32_t edge)
 {
-    static struct run_state twin_state;
-    static struct run_stepped stepped, twin_by_value;
-    struct run_answer host, twin;
+    static TamsklorState twin_state;
+    static TamsklorStepped stepped, twin_by_value;
+    TamsklorCallAnswer host, twin;
     twin_state = state;
-    stepped = run_stepped(plan, state, code, process, edge);
+    stepped = tamsklor_run_stepped(plan, state, code, process, edge);
     twin_by_value = twin_stepped(plan, state, code, process, edge);
-    host = run_step(&plan, &state, code, process, edge);
+    host = tamsklor_run_step(&plan, &state, code, process, edge);
     twin = twin_step(&plan, &twin_state, code, process, edge);
     if (!same_answer(host, twin) || !same_answer(host, stepped.answer) ||
         !same_answer(host, twin_by_value.answer))
@@ -84,21 +84,20 @@ static void compare_step(uint32_t code, uint32_t process, uint32_t edge)
         give_up("the states after a call and after its twin differ");
     if (host.kind < KINDS)
         kinds[host.kind]++;
-    if (host.kind == RUN_REFUSED && host.value < NUMBERS)
+    if (host.kind == TAMSKLOR_RUN_REFUSED && host.value < NUMBERS)
         refused[host.value]++;
     calls++;
 }
 
-static int same_tokens(struct run_token_answer a, struct run_token_answer b)
+static int same_tokens(TamsklorTokenAnswer a, TamsklorTokenAnswer b)
 {
     return a.number == b.number && a.count == b.count;
 }
 
 static void compare_tokens(uint32_t edge)
 {
-    struct run_token_answer host = run_tokens(plan, state, edge);
-    if (!same_tokens(host, twin_tokens(&plan, &state, edge)) ||
-        !same_tokens(host, twin_tokens_by_value(plan, state, edge)))
+    TamsklorTokenAnswer host = tamsklor_run_tokens(&plan, &state, edge);
+    if (!same_tokens(host, twin_tokens(&plan, &state, edge)))
         give_up("a token reading and its twin differ");
     if (host.number < NUMBERS)
         refused[host.number]++;
@@ -107,10 +106,10 @@ static void compare_tokens(uint32_t edge)
 
 static void compare_begin(void)
 {
-    static struct run_begun host, twin;
-    static struct run_state in_place;
-    host = run_begin(plan);
-    twin = twin_begun(plan);
+    static TamsklorBegun host, twin;
+    static TamsklorState in_place;
+    host = tamsklor_run_begin(&plan);
+    twin = twin_begun(&plan);
     if (twin_begin(&plan, &in_place) != host.number ||
         twin.number != host.number || !same_state(&host.state, &twin.state) ||
         !same_state(&host.state, &in_place))
@@ -129,14 +128,14 @@ static uint32_t some_number(struct random *random, uint32_t near)
 /* A process's marks looked at, then fired and opened again. */
 static void try_process(struct random *random)
 {
-    uint32_t p = random_below(random, PLAN_PROCESSES);
+    uint32_t p = random_below(random, TAMSKLOR_PROCESSES);
     if (plan.processes > 0 && plan.processes < p)
         p = random_below(random, plan.processes);
-    for (uint32_t e = 0; e < PLAN_EDGES; e++)
-        if (state.marks[p][e])
-            compare_step(RUN_LOOK, p, e);
-    compare_step(RUN_FIRE, p, 0);
-    compare_step(RUN_OPEN, p, 0);
+    for (uint32_t e = 0; e < TAMSKLOR_EDGES; e++)
+        if (state.marks[TAMSKLOR_MARK(p, e)])
+            compare_step(TAMSKLOR_RUN_LOOK, p, e);
+    compare_step(TAMSKLOR_RUN_FIRE, p, 0);
+    compare_step(TAMSKLOR_RUN_OPEN, p, 0);
 }
 
 static void try_calls(struct random *random, uint32_t rounds)

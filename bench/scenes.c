@@ -29,32 +29,33 @@ struct running {
     struct random *random;
     struct sketch sketch;
     struct shadow shadow;
-    struct plan_value plan;
-    struct run_state state;
+    TamsklorPlan plan;
+    TamsklorState state;
 };
 
 static void begin_run(struct running *run)
 {
     struct picture picture;
-    struct plan_reading reading;
+    TamsklorPlanRead reading;
     sketch_picture(&run->sketch, &picture);
-    reading = plan_read(picture.bytes, picture.length);
-    if (reading.number != PLAN_ACCEPTED)
+    reading = tamsklor_plan_read(picture.bytes, picture.length);
+    if (reading.number != TAMSKLOR_PLAN_ACCEPTED)
         give_up("a plan to run is not accepted");
     run->plan = reading.plan;
-    run->state = run_begin(reading.plan).state;
+    run->state = tamsklor_run_begin(&reading.plan).state;
     shadow_begin(&run->sketch, &run->shadow);
 }
 
-/* The kind of answer that a case is about; RUN_REFUSED where any state does. */
+/* The kind of answer that a case is about; TAMSKLOR_RUN_REFUSED where any
+   state does. */
 static uint32_t answer_of(enum scene_case kind)
 {
     switch (kind) {
-    case SCENE_OPEN: return RUN_OPENED;
-    case SCENE_FOUND: return RUN_FOUND;
-    case SCENE_WAIT: return RUN_WAIT;
-    case SCENE_FIRE: return RUN_FIRED;
-    default: return RUN_REFUSED;
+    case SCENE_OPEN: return TAMSKLOR_RUN_OPENED;
+    case SCENE_FOUND: return TAMSKLOR_RUN_FOUND;
+    case SCENE_WAIT: return TAMSKLOR_RUN_WAIT;
+    case SCENE_FIRE: return TAMSKLOR_RUN_FIRED;
+    default: return TAMSKLOR_RUN_REFUSED;
     }
 }
 
@@ -62,8 +63,8 @@ static uint32_t answer_of(enum scene_case kind)
 static int keep_if(struct running *run, uint32_t kind, struct scene *scene)
 {
     struct call call = draw_useful_call(run->random, &run->shadow);
-    struct run_answer got;
-    if (kind != RUN_REFUSED) {
+    TamsklorCallAnswer got;
+    if (kind != TAMSKLOR_RUN_REFUSED) {
         scene->plan = run->plan;
         scene->state = run->state;
         scene->code = call.code;
@@ -73,7 +74,7 @@ static int keep_if(struct running *run, uint32_t kind, struct scene *scene)
     got = twin_step(&run->plan, &run->state, call.code, call.process,
                     call.edge);
     shadow_call(&run->shadow, call.code, call.process, call.edge);
-    return kind != RUN_REFUSED && got.kind == kind;
+    return kind != TAMSKLOR_RUN_REFUSED && got.kind == kind;
 }
 
 /* A scene that any state serves. */
@@ -83,7 +84,7 @@ static void keep_any(struct running *run, enum scene_case kind,
     uint32_t process_of[SKETCH_NODES], first[SKETCH_NODES];
     scene->plan = run->plan;
     scene->state = run->state;
-    scene->code = kind == SCENE_NO_CODE ? 3 : RUN_LOOK;
+    scene->code = kind == SCENE_NO_CODE ? 3 : TAMSKLOR_RUN_LOOK;
     scene->process = run->plan.processes;
     scene->edge = 0;
     sketch_processes(&run->sketch, process_of, first);
@@ -103,11 +104,11 @@ static void draw_run(uint32_t plan, uint32_t number, struct random *random)
         hand_plan_p(&run.sketch);
     begin_run(&run);
     for (uint32_t i = 0; i < CALLS_BEFORE; i++)
-        keep_if(&run, RUN_REFUSED, NULL);
+        keep_if(&run, TAMSKLOR_RUN_REFUSED, NULL);
     for (uint32_t kind = 0; kind < SCENE_CASES; kind++) {
         struct scene *scene = &scenes[plan][kind][number];
         uint32_t wanted = answer_of((enum scene_case)kind), calls = 0;
-        if (wanted == RUN_REFUSED)
+        if (wanted == TAMSKLOR_RUN_REFUSED)
             keep_any(&run, (enum scene_case)kind, scene);
         else
             while (!keep_if(&run, wanted, scene))

@@ -24,8 +24,8 @@ extern const char *const scene_plan_names[SCENE_PLANS];
 
 /* A call on a state that a run of an accepted plan has reached. */
 struct scene {
-    struct plan_value plan;
-    struct run_state state;
+    TamsklorPlan plan;
+    TamsklorState state;
     uint32_t code, process, edge;
 };
 

@@ -3,18 +3,12 @@
 
 #include "twin.h"
 
-enum {
-    HEADER_BYTES = 36,
-    MOST_MODULUS = 2000000000,
-    MOST_INCREMENT = 255,
-    MOST_TOKENS = 1000,
-    NO_ROUTE = 100000 /* 64 edges of 1,000 tokens hold fewer */
-};
+enum { NO_ROUTE = 100000 }; /* 64 edges of 1,000 tokens hold fewer */
 
 /* What is worked out of a plan. */
 struct found {
-    uint16_t process_of[PLAN_NODES];
-    uint32_t loop[PLAN_EDGES]; /* its tokens and the emptiest route back */
+    uint16_t process_of[TAMSKLOR_NODES];
+    uint32_t loop[TAMSKLOR_EDGES]; /* its tokens and the emptiest route back */
 };
 
 static uint16_t pair_at(const uint8_t *bytes)
@@ -32,7 +26,7 @@ static int outside(uint32_t value, uint32_t most)
     return value < 1 || value > most;
 }
 
-static void read_counts(struct plan_value *plan, const uint8_t *image)
+static void read_counts(TamsklorPlan *plan, const uint8_t *image)
 {
     plan->nodes = pair_at(image + 2);
     plan->processes = pair_at(image + 4);
@@ -42,32 +36,32 @@ static void read_counts(struct plan_value *plan, const uint8_t *image)
 }
 
 /* 3: a count or N outside its bounds. */
-static int counts_fit(const struct plan_value *plan)
+static int counts_fit(const TamsklorPlan *plan)
 {
-    return !outside(plan->nodes, PLAN_NODES) &&
-           !outside(plan->processes, PLAN_PROCESSES) &&
-           !outside(plan->edges, PLAN_EDGES) &&
-           !outside(plan->counters, PLAN_COUNTERS) &&
-           !outside(plan->modulus, MOST_MODULUS);
+    return !outside(plan->nodes, TAMSKLOR_NODES) &&
+           !outside(plan->processes, TAMSKLOR_PROCESSES) &&
+           !outside(plan->edges, TAMSKLOR_EDGES) &&
+           !outside(plan->counters, TAMSKLOR_COUNTERS) &&
+           !outside(plan->modulus, TAMSKLOR_MODULUS_MOST);
 }
 
 /* 4: an offset, the total or the length is not what the counts give. */
-static int offsets_fit(const struct plan_value *plan, const uint8_t *image,
+static int offsets_fit(const TamsklorPlan *plan, const uint8_t *image,
                        size_t length)
 {
-    uint32_t order = HEADER_BYTES + 2u * plan->processes;
+    uint32_t order = TAMSKLOR_HEADER_BYTES + 2u * plan->processes;
     uint32_t nodes = order + 2u * plan->nodes;
     uint32_t edges = nodes + 4u * plan->nodes;
     uint32_t total = edges + 6u * plan->edges;
-    return quad_at(image + 16) == HEADER_BYTES &&
+    return quad_at(image + 16) == TAMSKLOR_HEADER_BYTES &&
            quad_at(image + 20) == order && quad_at(image + 24) == nodes &&
            quad_at(image + 28) == edges && quad_at(image + 32) == total &&
            length == total;
 }
 
-static void read_tables(struct plan_value *plan, const uint8_t *image)
+static void read_tables(TamsklorPlan *plan, const uint8_t *image)
 {
-    const uint8_t *at = image + HEADER_BYTES;
+    const uint8_t *at = image + TAMSKLOR_HEADER_BYTES;
     uint32_t nodes = plan->nodes;
     uint32_t processes = plan->processes;
     uint32_t edges = plan->edges;
@@ -88,7 +82,7 @@ static void read_tables(struct plan_value *plan, const uint8_t *image)
 
 /* Each test below answers the lowest place, or -1 where it passes. */
 
-static int test_5(const struct plan_value *plan)
+static int test_5(const TamsklorPlan *plan)
 {
     uint32_t sum = 0;
     for (uint32_t i = 0; i < plan->processes; i++) {
@@ -99,7 +93,7 @@ static int test_5(const struct plan_value *plan)
     return sum == plan->nodes ? -1 : (int)plan->processes;
 }
 
-static int test_6(const struct plan_value *plan)
+static int test_6(const TamsklorPlan *plan)
 {
     uint64_t seen = 0;
     for (uint32_t i = 0; i < plan->nodes; i++) {
@@ -111,17 +105,17 @@ static int test_6(const struct plan_value *plan)
     return -1;
 }
 
-static int test_7(const struct plan_value *plan)
+static int test_7(const TamsklorPlan *plan)
 {
     for (uint32_t i = 0; i < plan->nodes; i++)
         if (plan->counter[i] >= plan->counters ||
-            plan->increment[i] > MOST_INCREMENT)
+            plan->increment[i] > TAMSKLOR_INCREMENT_MOST)
             return (int)i;
     return -1;
 }
 
 /* One branch an edge: the ends are compared as one number. */
-static int test_8(const struct plan_value *plan)
+static int test_8(const TamsklorPlan *plan)
 {
     uint32_t nodes = plan->nodes;
     int64_t before = -1;
@@ -129,15 +123,15 @@ static int test_8(const struct plan_value *plan)
         uint32_t source = plan->source[i], target = plan->destination[i];
         int64_t ends = (int64_t)(source << 16 | target);
         if ((source >= nodes) | (target >= nodes) |
-            (plan->tokens[i] > MOST_TOKENS) | (ends <= before))
+            (plan->tokens[i] > TAMSKLOR_TOKENS_MOST) | (ends <= before))
             return (int)i;
         before = ends;
     }
     return -1;
 }
 
-static int has_edge(const struct plan_value *plan, uint32_t source,
-                    uint32_t target, uint32_t tokens)
+static int has_edge(const TamsklorPlan *plan, uint32_t source, uint32_t target,
+                    uint32_t tokens)
 {
     for (uint32_t i = 0; i < plan->edges; i++)
         if (plan->source[i] == source && plan->destination[i] == target)
@@ -146,7 +140,7 @@ static int has_edge(const struct plan_value *plan, uint32_t source,
 }
 
 /* Also enters the process of each node. */
-static int test_9(const struct plan_value *plan, struct found *found)
+static int test_9(const TamsklorPlan *plan, struct found *found)
 {
     uint32_t first = 0;
     for (uint32_t p = 0; p < plan->processes; p++) {
@@ -163,9 +157,9 @@ static int test_9(const struct plan_value *plan, struct found *found)
     return -1;
 }
 
-static int test_10(const struct plan_value *plan, const struct found *found)
+static int test_10(const TamsklorPlan *plan, const struct found *found)
 {
-    int process[PLAN_COUNTERS];
+    int process[TAMSKLOR_COUNTERS];
     int lowest = -1;
     for (uint32_t c = 0; c < plan->counters; c++)
         process[c] = -1;
@@ -180,15 +174,15 @@ static int test_10(const struct plan_value *plan, const struct found *found)
     return lowest;
 }
 
-static int synchronising(const struct plan_value *plan,
-                         const struct found *found, uint32_t edge)
+static int synchronising(const TamsklorPlan *plan, const struct found *found,
+                         uint32_t edge)
 {
     return found->process_of[plan->source[edge]] !=
            found->process_of[plan->destination[edge]];
 }
 
 /* Edges rise by source, so the first one found leaves the lowest node. */
-static int test_11(const struct plan_value *plan, const struct found *found)
+static int test_11(const TamsklorPlan *plan, const struct found *found)
 {
     for (uint32_t i = 0; i < plan->edges; i++)
         if (plan->increment[plan->source[i]] == 0 &&
@@ -198,9 +192,9 @@ static int test_11(const struct plan_value *plan, const struct found *found)
 }
 
 /* Also enters Q. */
-static int test_12(struct plan_value *plan)
+static int test_12(TamsklorPlan *plan)
 {
-    uint32_t sum[PLAN_COUNTERS] = {0};
+    uint32_t sum[TAMSKLOR_COUNTERS] = {0};
     for (uint32_t i = 0; i < plan->nodes; i++)
         sum[plan->counter[i]] += plan->increment[i];
     plan->q = sum[0];
@@ -213,7 +207,7 @@ static int test_12(struct plan_value *plan)
 /* A round: every edge in turn lowers its target's entry; whether one did.
    Without a branch: with one it takes a quarter fewer instructions on drawn
    plans, and 1.6 times as long. */
-static int relax_round(const struct plan_value *plan, uint32_t *row)
+static int relax_round(const TamsklorPlan *plan, uint32_t *row)
 {
     uint32_t edges = plan->edges, changed = 0;
     for (uint32_t i = 0; i < edges; i++) {
@@ -227,10 +221,10 @@ static int relax_round(const struct plan_value *plan, uint32_t *row)
 }
 
 /* The tokens of the emptiest route from one node to each. */
-static void emptiest_row(const struct plan_value *plan, uint32_t from,
+static void emptiest_row(const TamsklorPlan *plan, uint32_t from,
                          uint32_t *row)
 {
-    for (uint32_t i = 0; i < PLAN_NODES; i++)
+    for (uint32_t i = 0; i < TAMSKLOR_NODES; i++)
         row[i] = NO_ROUTE;
     row[from] = 0;
     while (relax_round(plan, row))
@@ -238,9 +232,9 @@ static void emptiest_row(const struct plan_value *plan, uint32_t from,
 }
 
 /* The loop sum of each edge, one row a node. */
-static void find_loops(const struct plan_value *plan, struct found *found)
+static void find_loops(const TamsklorPlan *plan, struct found *found)
 {
-    uint32_t row[PLAN_NODES];
+    uint32_t row[TAMSKLOR_NODES];
     for (uint32_t node = 0; node < plan->nodes; node++) {
         emptiest_row(plan, node, row);
         for (uint32_t i = 0; i < plan->edges; i++)
@@ -249,7 +243,7 @@ static void find_loops(const struct plan_value *plan, struct found *found)
     }
 }
 
-static int test_13(const struct plan_value *plan, const struct found *found)
+static int test_13(const TamsklorPlan *plan, const struct found *found)
 {
     int lowest = -1;
     for (uint32_t i = 0; i < plan->edges; i++)
@@ -259,7 +253,7 @@ static int test_13(const struct plan_value *plan, const struct found *found)
     return lowest;
 }
 
-static int test_14(const struct plan_value *plan, const struct found *found)
+static int test_14(const TamsklorPlan *plan, const struct found *found)
 {
     for (uint32_t i = 0; i < plan->edges; i++)
         if (found->loop[i] >= NO_ROUTE && synchronising(plan, found, i))
@@ -267,12 +261,12 @@ static int test_14(const struct plan_value *plan, const struct found *found)
     return -1;
 }
 
-static int test_15(const struct plan_value *plan)
+static int test_15(const TamsklorPlan *plan)
 {
     return plan->modulus % plan->q == 0 ? -1 : 0;
 }
 
-static int test_16(const struct plan_value *plan, const struct found *found)
+static int test_16(const TamsklorPlan *plan, const struct found *found)
 {
     for (uint32_t i = 0; i < plan->edges; i++)
         if (synchronising(plan, found, i) &&
@@ -281,7 +275,7 @@ static int test_16(const struct plan_value *plan, const struct found *found)
     return -1;
 }
 
-static uint32_t least_modulus(const struct plan_value *plan,
+static uint32_t least_modulus(const TamsklorPlan *plan,
                               const struct found *found)
 {
     uint32_t most = 0;
@@ -291,77 +285,77 @@ static uint32_t least_modulus(const struct plan_value *plan,
     return plan->q * (most + 1);
 }
 
-static struct plan_verdict verdict(int number, int place, uint32_t least)
+static TamsklorVerdict verdict(int number, int place, uint32_t least)
 {
-    struct plan_verdict answer;
+    TamsklorVerdict answer;
     answer.number = (uint32_t)number;
     answer.place = (uint32_t)place;
     answer.least = least;
     return answer;
 }
 
-static struct plan_verdict judge(struct plan_value *plan)
+static TamsklorVerdict judge(TamsklorPlan *plan)
 {
     struct found found;
     int place;
     if ((place = test_5(plan)) >= 0)
-        return verdict(PLAN_LENGTH_WRONG, place, 0);
+        return verdict(TAMSKLOR_PLAN_LENGTH_WRONG, place, 0);
     if ((place = test_6(plan)) >= 0)
-        return verdict(PLAN_ORDER_WRONG, place, 0);
+        return verdict(TAMSKLOR_PLAN_ORDER_WRONG, place, 0);
     if ((place = test_7(plan)) >= 0)
-        return verdict(PLAN_NODE_WRONG, place, 0);
+        return verdict(TAMSKLOR_PLAN_NODE_WRONG, place, 0);
     if ((place = test_8(plan)) >= 0)
-        return verdict(PLAN_EDGE_WRONG, place, 0);
+        return verdict(TAMSKLOR_PLAN_EDGE_WRONG, place, 0);
     if ((place = test_9(plan, &found)) >= 0)
-        return verdict(PLAN_PROCESS_EDGE_WRONG, place, 0);
+        return verdict(TAMSKLOR_PLAN_PROCESS_EDGE_WRONG, place, 0);
     if ((place = test_10(plan, &found)) >= 0)
-        return verdict(PLAN_COUNTER_SHARED, place, 0);
+        return verdict(TAMSKLOR_PLAN_COUNTER_SHARED, place, 0);
     if ((place = test_11(plan, &found)) >= 0)
-        return verdict(PLAN_INCREMENT_ZERO, place, 0);
+        return verdict(TAMSKLOR_PLAN_INCREMENT_ZERO, place, 0);
     if ((place = test_12(plan)) >= 0)
-        return verdict(PLAN_SUM_WRONG, place, 0);
+        return verdict(TAMSKLOR_PLAN_SUM_WRONG, place, 0);
     find_loops(plan, &found);
     if ((place = test_13(plan, &found)) >= 0)
-        return verdict(PLAN_CYCLE_WITHOUT_TOKENS, place, 0);
+        return verdict(TAMSKLOR_PLAN_CYCLE_WITHOUT_TOKENS, place, 0);
     if ((place = test_14(plan, &found)) >= 0)
-        return verdict(PLAN_NO_ROUTE_BACK, place, 0);
+        return verdict(TAMSKLOR_PLAN_NO_ROUTE_BACK, place, 0);
     if ((place = test_15(plan)) >= 0)
-        return verdict(PLAN_MODULUS_NO_MULTIPLE, place, 0);
+        return verdict(TAMSKLOR_PLAN_MODULUS_NO_MULTIPLE, place, 0);
     if ((place = test_16(plan, &found)) >= 0)
-        return verdict(PLAN_MODULUS_TOO_SMALL, place, 0);
-    return verdict(PLAN_ACCEPTED, 0, least_modulus(plan, &found));
+        return verdict(TAMSKLOR_PLAN_MODULUS_TOO_SMALL, place, 0);
+    return verdict(TAMSKLOR_PLAN_ACCEPTED, 0, least_modulus(plan, &found));
 }
 
 /* Reads an image into a plan; entries past the counts stay as they are. */
-static struct plan_verdict read_image(const uint8_t *image, size_t length,
-                                      struct plan_value *plan)
+static TamsklorVerdict read_image(const uint8_t *image, size_t length,
+                                  TamsklorPlan *plan)
 {
-    if (length < HEADER_BYTES)
-        return verdict(PLAN_HEADER_CUT, 0, 0);
+    if (length < TAMSKLOR_HEADER_BYTES)
+        return verdict(TAMSKLOR_PLAN_HEADER_CUT, 0, 0);
     if (pair_at(image) != 1 || pair_at(image + 10) != 0)
-        return verdict(PLAN_FORMAT_WRONG, 0, 0);
+        return verdict(TAMSKLOR_PLAN_FORMAT_WRONG, 0, 0);
     read_counts(plan, image);
     if (!counts_fit(plan))
-        return verdict(PLAN_COUNT_OUT_OF_BOUNDS, 0, 0);
+        return verdict(TAMSKLOR_PLAN_COUNT_OUT_OF_BOUNDS, 0, 0);
     if (!offsets_fit(plan, image, length))
-        return verdict(PLAN_OFFSET_WRONG, 0, 0);
+        return verdict(TAMSKLOR_PLAN_OFFSET_WRONG, 0, 0);
     read_tables(plan, image);
     return judge(plan);
 }
 
-struct plan_verdict twin_check(const uint8_t *image, size_t length)
+TamsklorVerdict twin_check(const uint8_t *image, size_t length)
 {
-    struct plan_value plan;
+    TamsklorPlan plan;
     return read_image(image, length, &plan);
 }
 
-struct plan_reading twin_read(const uint8_t *image, size_t length)
+TamsklorPlanRead twin_read(const uint8_t *image, size_t length)
 {
-    struct plan_reading reading;
-    struct plan_verdict answer;
+    TamsklorPlanRead reading;
+    TamsklorVerdict answer;
     memset(&reading.plan, 0, sizeof reading.plan);
     answer = read_image(image, length, &reading.plan);
-    if (answer.number != PLAN_ACCEPTED)
+    if (answer.number != TAMSKLOR_PLAN_ACCEPTED)
         memset(&reading.plan, 0, sizeof reading.plan);
     reading.number = answer.number;
     reading.place = answer.place;
@@ -369,7 +363,7 @@ struct plan_reading twin_read(const uint8_t *image, size_t length)
     return reading;
 }
 
-int twin_plan_fits(const struct plan_value *plan)
+int twin_plan_fits(const TamsklorPlan *plan)
 {
     uint32_t sum = 0;
     if (!counts_fit(plan) || test_5(plan) >= 0 || test_6(plan) >= 0 ||

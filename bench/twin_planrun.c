@@ -9,8 +9,8 @@ enum { INPUT_BYTES = 65536, TEXT_BYTES = 409642 };
 
 static uint8_t input[INPUT_BYTES + 1];
 static char text[TEXT_BYTES];
-static struct plan_reading reading;
-static struct run_state state;
+static TamsklorPlanRead reading;
+static TamsklorState state;
 
 static char *put_word(char *at, const char *word)
 {
@@ -31,7 +31,7 @@ static char *put_number(char *at, uint32_t number)
     return at + (sizeof digits - first);
 }
 
-static char *put_line(char *at, uint32_t index, struct run_answer answer)
+static char *put_line(char *at, uint32_t index, TamsklorCallAnswer answer)
 {
     static const char *const words[] = {" refused ", " opened ", " found ",
                                         " wait ", " fired "};
@@ -81,7 +81,7 @@ static char *put_text(char *at, size_t length)
     if (length > INPUT_BYTES)
         return put_word(at, "too long\n");
     reading = twin_read(input, image);
-    if (reading.number != PLAN_ACCEPTED) {
+    if (reading.number != TAMSKLOR_PLAN_ACCEPTED) {
         at = put_three(at, "refused ", reading.number, reading.place);
         return put_word(at, "\n");
     }

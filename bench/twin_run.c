@@ -3,8 +3,7 @@
 
 #include "twin.h"
 
-void twin_find_places(const struct plan_value *plan,
-                      struct twin_places *places)
+void twin_find_places(const TamsklorPlan *plan, struct twin_places *places)
 {
     uint32_t at = 0;
     for (uint32_t p = 0; p < plan->processes; p++) {
@@ -15,26 +14,25 @@ void twin_find_places(const struct plan_value *plan,
     }
 }
 
-static uint32_t next_node(const struct plan_value *plan,
+static uint32_t next_node(const TamsklorPlan *plan,
                           const struct twin_places *places,
-                          const struct run_state *state, uint32_t p)
+                          const TamsklorState *state, uint32_t p)
 {
     return plan->order[places->first[p] + state->positions[p]];
 }
 
 /* Positions, open flags and counters in range, and 0 past the counts. */
-static int numbers_fit(const struct plan_value *plan,
-                       const struct run_state *state)
+static int numbers_fit(const TamsklorPlan *plan, const TamsklorState *state)
 {
     uint32_t wrong = 0;
     for (uint32_t p = 0; p < plan->processes; p++)
         wrong |= (state->positions[p] >= plan->lengths[p]) |
                  (state->opened[p] > 1);
-    for (uint32_t p = plan->processes; p < PLAN_PROCESSES; p++)
+    for (uint32_t p = plan->processes; p < TAMSKLOR_PROCESSES; p++)
         wrong |= state->positions[p] | state->opened[p];
     for (uint32_t c = 0; c < plan->counters; c++)
         wrong |= state->counters[c] >= plan->modulus;
-    for (uint32_t c = plan->counters; c < PLAN_COUNTERS; c++)
+    for (uint32_t c = plan->counters; c < TAMSKLOR_COUNTERS; c++)
         wrong |= state->counters[c];
     return wrong == 0;
 }
@@ -43,13 +41,13 @@ static int numbers_fit(const struct plan_value *plan,
 static int row_is_clear(const uint8_t *row)
 {
     uint8_t any = 0;
-    for (uint32_t e = 0; e < PLAN_EDGES; e++)
+    for (uint32_t e = 0; e < TAMSKLOR_EDGES; e++)
         any |= row[e];
     return any == 0;
 }
 
 /* A mark that is there: 1, on a synchronising in-edge of the next node. */
-static int mark_fits(const struct plan_value *plan,
+static int mark_fits(const TamsklorPlan *plan,
                      const struct twin_places *places, uint32_t p,
                      uint32_t next, uint32_t e, uint8_t mark)
 {
@@ -58,13 +56,12 @@ static int mark_fits(const struct plan_value *plan,
 }
 
 /* The marks of an open process, eight at a time where there are none. */
-static int row_fits(const struct plan_value *plan,
-                    const struct twin_places *places,
-                    const struct run_state *state, uint32_t p)
+static int row_fits(const TamsklorPlan *plan, const struct twin_places *places,
+                    const TamsklorState *state, uint32_t p)
 {
-    const uint8_t *row = state->marks[p];
+    const uint8_t *row = state->marks + TAMSKLOR_MARK(p, 0);
     uint32_t next = next_node(plan, places, state, p);
-    for (uint32_t e = 0; e < PLAN_EDGES; e += 8) {
+    for (uint32_t e = 0; e < TAMSKLOR_EDGES; e += 8) {
         uint64_t eight;
         memcpy(&eight, row + e, 8);
         if (eight == 0)
@@ -77,12 +74,12 @@ static int row_fits(const struct plan_value *plan,
 }
 
 /* All 32,768 marks. */
-static int marks_fit(const struct plan_value *plan,
+static int marks_fit(const TamsklorPlan *plan,
                      const struct twin_places *places,
-                     const struct run_state *state)
+                     const TamsklorState *state)
 {
-    for (uint32_t p = 0; p < PLAN_PROCESSES; p++) {
-        if (row_is_clear(state->marks[p]))
+    for (uint32_t p = 0; p < TAMSKLOR_PROCESSES; p++) {
+        if (row_is_clear(state->marks + TAMSKLOR_MARK(p, 0)))
             continue;
         if (state->opened[p] == 0 || !row_fits(plan, places, state, p))
             return 0;
@@ -91,8 +88,8 @@ static int marks_fit(const struct plan_value *plan,
 }
 
 /* 25; also finds the places. */
-static int both_fit(const struct plan_value *plan,
-                    const struct run_state *state, struct twin_places *places)
+static int both_fit(const TamsklorPlan *plan, const TamsklorState *state,
+                    struct twin_places *places)
 {
     if (!twin_plan_fits(plan) || !numbers_fit(plan, state))
         return 0;
@@ -100,9 +97,9 @@ static int both_fit(const struct plan_value *plan,
     return marks_fit(plan, places, state);
 }
 
-static struct run_answer answer(uint32_t kind, uint32_t value)
+static TamsklorCallAnswer answer(uint32_t kind, uint32_t value)
 {
-    struct run_answer made;
+    TamsklorCallAnswer made;
     made.kind = kind;
     made.value = value;
     return made;
@@ -111,16 +108,16 @@ static struct run_answer answer(uint32_t kind, uint32_t value)
 static uint32_t marks_left(const uint8_t *row)
 {
     uint32_t left = 0;
-    for (uint32_t e = 0; e < PLAN_EDGES; e++)
+    for (uint32_t e = 0; e < TAMSKLOR_EDGES; e++)
         left += row[e];
     return left;
 }
 
-static struct run_answer open_process(const struct plan_value *plan,
-                                      const struct twin_places *places,
-                                      struct run_state *state, uint32_t p)
+static TamsklorCallAnswer open_process(const TamsklorPlan *plan,
+                                       const struct twin_places *places,
+                                       TamsklorState *state, uint32_t p)
 {
-    uint8_t *row = state->marks[p];
+    uint8_t *row = state->marks + TAMSKLOR_MARK(p, 0);
     uint32_t edges = plan->edges, marked = 0;
     uint32_t next = next_node(plan, places, state, p);
     for (uint32_t e = 0; e < edges; e++)
@@ -131,13 +128,13 @@ static struct run_answer open_process(const struct plan_value *plan,
         }
     state->opened[p] = 1;
     state->turn++;
-    return answer(RUN_OPENED, marked);
+    return answer(TAMSKLOR_RUN_OPENED, marked);
 }
 
 /* b(x), rounded up to a multiple of Q. */
-static uint32_t rounded_b(const struct plan_value *plan,
+static uint32_t rounded_b(const TamsklorPlan *plan,
                           const struct twin_places *places,
-                          const struct run_state *state, uint32_t x)
+                          const TamsklorState *state, uint32_t x)
 {
     const uint16_t *order = plan->order + places->first[places->process_of[x]];
     uint32_t counter = plan->counter[x], earlier = 0, b;
@@ -156,9 +153,9 @@ static uint32_t minus(uint32_t modulus, uint32_t a, uint32_t b)
 }
 
 /* Formula 14. */
-static int edge_found(const struct plan_value *plan,
+static int edge_found(const TamsklorPlan *plan,
                       const struct twin_places *places,
-                      const struct run_state *state, uint32_t e)
+                      const TamsklorState *state, uint32_t e)
 {
     uint32_t n = rounded_b(plan, places, state, plan->destination[e]);
     uint32_t m = rounded_b(plan, places, state, plan->source[e]);
@@ -166,23 +163,22 @@ static int edge_found(const struct plan_value *plan,
            plan->q * plan->tokens[e] % plan->modulus;
 }
 
-static struct run_answer look_at(const struct plan_value *plan,
-                                 const struct twin_places *places,
-                                 struct run_state *state, uint32_t p,
-                                 uint32_t e)
+static TamsklorCallAnswer look_at(const TamsklorPlan *plan,
+                                  const struct twin_places *places,
+                                  TamsklorState *state, uint32_t p, uint32_t e)
 {
-    uint32_t kind = RUN_WAIT;
+    uint32_t kind = TAMSKLOR_RUN_WAIT;
     if (edge_found(plan, places, state, e)) {
-        state->marks[p][e] = 0;
-        kind = RUN_FOUND;
+        state->marks[TAMSKLOR_MARK(p, e)] = 0;
+        kind = TAMSKLOR_RUN_FOUND;
     }
     state->turn++;
-    return answer(kind, marks_left(state->marks[p]));
+    return answer(kind, marks_left(state->marks + TAMSKLOR_MARK(p, 0)));
 }
 
-static struct run_answer fire(const struct plan_value *plan,
-                              const struct twin_places *places,
-                              struct run_state *state, uint32_t p)
+static TamsklorCallAnswer fire(const TamsklorPlan *plan,
+                               const struct twin_places *places,
+                               TamsklorState *state, uint32_t p)
 {
     uint32_t node = next_node(plan, places, state, p);
     uint32_t *counter = &state->counters[plan->counter[node]];
@@ -192,94 +188,86 @@ static struct run_answer fire(const struct plan_value *plan,
         state->positions[p] = 0;
     state->opened[p] = 0;
     state->turn++;
-    return answer(RUN_FIRED, node);
+    return answer(TAMSKLOR_RUN_FIRED, node);
 }
 
-struct run_answer twin_step_in_shape(const struct plan_value *plan,
-                                     const struct twin_places *places,
-                                     struct run_state *state, uint32_t code,
-                                     uint32_t process, uint32_t edge)
+TamsklorCallAnswer twin_step_in_shape(const TamsklorPlan *plan,
+                                      const struct twin_places *places,
+                                      TamsklorState *state, uint32_t code,
+                                      uint32_t process, uint32_t edge)
 {
-    if (code > RUN_FIRE)
-        return answer(RUN_REFUSED, RUN_UNKNOWN_CODE);
+    if (code > TAMSKLOR_RUN_FIRE)
+        return answer(TAMSKLOR_RUN_REFUSED, TAMSKLOR_RUN_UNKNOWN_CODE);
     if (process >= plan->processes)
-        return answer(RUN_REFUSED, RUN_UNKNOWN_PROCESS);
-    if (code == RUN_OPEN) {
+        return answer(TAMSKLOR_RUN_REFUSED, TAMSKLOR_RUN_UNKNOWN_PROCESS);
+    if (code == TAMSKLOR_RUN_OPEN) {
         if (state->opened[process])
-            return answer(RUN_REFUSED, RUN_ALREADY_OPEN);
+            return answer(TAMSKLOR_RUN_REFUSED, TAMSKLOR_RUN_ALREADY_OPEN);
         return open_process(plan, places, state, process);
     }
     if (!state->opened[process])
-        return answer(RUN_REFUSED, RUN_NOT_OPEN);
-    if (code == RUN_FIRE) {
-        if (!row_is_clear(state->marks[process]))
-            return answer(RUN_REFUSED, RUN_MARKS_LEFT);
+        return answer(TAMSKLOR_RUN_REFUSED, TAMSKLOR_RUN_NOT_OPEN);
+    if (code == TAMSKLOR_RUN_FIRE) {
+        if (!row_is_clear(state->marks + TAMSKLOR_MARK(process, 0)))
+            return answer(TAMSKLOR_RUN_REFUSED, TAMSKLOR_RUN_MARKS_LEFT);
         return fire(plan, places, state, process);
     }
-    if (edge >= plan->edges || !state->marks[process][edge])
-        return answer(RUN_REFUSED, RUN_NOT_MARKED);
+    if (edge >= plan->edges || !state->marks[TAMSKLOR_MARK(process, edge)])
+        return answer(TAMSKLOR_RUN_REFUSED, TAMSKLOR_RUN_NOT_MARKED);
     return look_at(plan, places, state, process, edge);
 }
 
-uint32_t twin_begin(const struct plan_value *plan, struct run_state *state)
+uint32_t twin_begin(const TamsklorPlan *plan, TamsklorState *state)
 {
     memset(state, 0, sizeof *state);
-    return twin_plan_fits(plan) ? RUN_ACCEPTED : RUN_OUT_OF_SHAPE;
+    return twin_plan_fits(plan) ? TAMSKLOR_RUN_ACCEPTED
+                                : TAMSKLOR_RUN_OUT_OF_SHAPE;
 }
 
-struct run_answer twin_step(const struct plan_value *plan,
-                            struct run_state *state, uint32_t code,
-                            uint32_t process, uint32_t edge)
+TamsklorCallAnswer twin_step(const TamsklorPlan *plan, TamsklorState *state,
+                             uint32_t code, uint32_t process, uint32_t edge)
 {
     struct twin_places places;
-    if (code > RUN_FIRE)
-        return answer(RUN_REFUSED, RUN_UNKNOWN_CODE);
+    if (code > TAMSKLOR_RUN_FIRE)
+        return answer(TAMSKLOR_RUN_REFUSED, TAMSKLOR_RUN_UNKNOWN_CODE);
     if (!both_fit(plan, state, &places))
-        return answer(RUN_REFUSED, RUN_OUT_OF_SHAPE);
+        return answer(TAMSKLOR_RUN_REFUSED, TAMSKLOR_RUN_OUT_OF_SHAPE);
     return twin_step_in_shape(plan, &places, state, code, process, edge);
 }
 
-struct run_token_answer twin_tokens(const struct plan_value *plan,
-                                    const struct run_state *state,
-                                    uint32_t edge)
+TamsklorTokenAnswer twin_tokens(const TamsklorPlan *plan,
+                                const TamsklorState *state, uint32_t edge)
 {
-    struct run_token_answer made = {RUN_OUT_OF_SHAPE, 0};
+    TamsklorTokenAnswer made = {TAMSKLOR_RUN_OUT_OF_SHAPE, 0};
     struct twin_places places;
     uint32_t m, n;
     if (!both_fit(plan, state, &places))
         return made;
-    made.number = RUN_NOT_SYNCHRONISING;
+    made.number = TAMSKLOR_RUN_NOT_SYNCHRONISING;
     if (edge >= plan->edges || places.process_of[plan->source[edge]] ==
                                    places.process_of[plan->destination[edge]])
         return made;
     m = rounded_b(plan, &places, state, plan->source[edge]);
     n = rounded_b(plan, &places, state, plan->destination[edge]);
-    made.number = RUN_ACCEPTED;
+    made.number = TAMSKLOR_RUN_ACCEPTED;
     made.count =
         (minus(plan->modulus, m, n) / plan->q + plan->tokens[edge]) %
         plan->modulus;
     return made;
 }
 
-struct run_begun twin_begun(struct plan_value plan)
+TamsklorBegun twin_begun(const TamsklorPlan *plan)
 {
-    struct run_begun begun;
-    begun.number = twin_begin(&plan, &begun.state);
+    TamsklorBegun begun;
+    begun.number = twin_begin(plan, &begun.state);
     return begun;
 }
 
-struct run_stepped twin_stepped(struct plan_value plan, struct run_state state,
-                                uint32_t code, uint32_t process, uint32_t edge)
+TamsklorStepped twin_stepped(TamsklorPlan plan, TamsklorState state,
+                             uint32_t code, uint32_t process, uint32_t edge)
 {
-    struct run_stepped stepped;
+    TamsklorStepped stepped;
     stepped.state = state;
     stepped.answer = twin_step(&plan, &stepped.state, code, process, edge);
     return stepped;
-}
-
-struct run_token_answer twin_tokens_by_value(struct plan_value plan,
-                                             struct run_state state,
-                                             uint32_t edge)
-{
-    return twin_tokens(&plan, &state, edge);
 }

@@ -3,7 +3,7 @@
 #include <stdio.h>
 #include <string.h>
 
-uint32_t order_first(const struct plan_value *plan, uint32_t process)
+uint32_t order_first(const TamsklorPlan *plan, uint32_t process)
 {
     uint32_t first = 0;
     for (uint32_t p = 0; p < process; p++)
@@ -11,7 +11,7 @@ uint32_t order_first(const struct plan_value *plan, uint32_t process)
     return first;
 }
 
-uint32_t order_process(const struct plan_value *plan, uint32_t node)
+uint32_t order_process(const TamsklorPlan *plan, uint32_t node)
 {
     uint32_t at = 0, process = 0;
     while (plan->order[at] != node)
@@ -21,13 +21,13 @@ uint32_t order_process(const struct plan_value *plan, uint32_t node)
     return process;
 }
 
-int order_synchronises(const struct plan_value *plan, uint32_t edge)
+int order_synchronises(const TamsklorPlan *plan, uint32_t edge)
 {
     return order_process(plan, plan->source[edge]) !=
            order_process(plan, plan->destination[edge]);
 }
 
-void order_begin(const struct plan_value *plan, struct marking *marking)
+void order_begin(const TamsklorPlan *plan, struct marking *marking)
 {
     memset(marking, 0, sizeof *marking);
     for (uint32_t e = 0; e < plan->edges; e++)
@@ -37,7 +37,7 @@ void order_begin(const struct plan_value *plan, struct marking *marking)
 }
 
 /* Moves a process past a node, if that is its next one. */
-static int take_turn(const struct plan_value *plan, struct marking *marking,
+static int take_turn(const TamsklorPlan *plan, struct marking *marking,
                      uint32_t node)
 {
     uint32_t process = order_process(plan, node);
@@ -55,7 +55,7 @@ static int take_turn(const struct plan_value *plan, struct marking *marking,
 }
 
 /* Takes one token from each in-edge of a node, if it is there. */
-static int take_tokens(const struct plan_value *plan, struct marking *marking,
+static int take_tokens(const TamsklorPlan *plan, struct marking *marking,
                        uint32_t node)
 {
     for (uint32_t e = 0; e < plan->edges; e++) {
@@ -71,7 +71,7 @@ static int take_tokens(const struct plan_value *plan, struct marking *marking,
     return 1;
 }
 
-int order_fire(const struct plan_value *plan, struct marking *marking,
+int order_fire(const TamsklorPlan *plan, struct marking *marking,
                uint32_t node)
 {
     if (!take_turn(plan, marking, node) || !take_tokens(plan, marking, node))

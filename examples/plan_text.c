@@ -15,13 +15,9 @@
 #include <stdlib.h>
 #include <string.h>
 
-enum {
-    HEADER_BYTES = 36,
-    MOST_PROCESSES = 64,
-    MOST_NODES = 64,
-    MOST_EDGES = 512,
-    LONGEST_LINE = 512
-};
+#include "tamsklor.h"
+
+enum { LONGEST_LINE = 512 };
 
 static const unsigned long most_16_bits = 65535, most_32_bits = 4294967295;
 
@@ -29,11 +25,11 @@ static const unsigned long most_16_bits = 65535, most_32_bits = 4294967295;
 static struct {
     unsigned long modulus;
     unsigned long processes, nodes, ordered, edges, counters;
-    unsigned long length[MOST_PROCESSES];
-    unsigned long order[MOST_NODES];
-    unsigned long counter[MOST_NODES], increment[MOST_NODES];
-    unsigned long source[MOST_EDGES], destination[MOST_EDGES];
-    unsigned long tokens[MOST_EDGES];
+    unsigned long length[TAMSKLOR_PROCESSES];
+    unsigned long order[TAMSKLOR_NODES];
+    unsigned long counter[TAMSKLOR_NODES], increment[TAMSKLOR_NODES];
+    unsigned long source[TAMSKLOR_EDGES], destination[TAMSKLOR_EDGES];
+    unsigned long tokens[TAMSKLOR_EDGES];
 } plan;
 
 static unsigned long line_number;
@@ -101,11 +97,11 @@ static void expect_next(const char **text, unsigned long next,
 static void take_process(const char **text)
 {
     unsigned long process = plan.processes;
-    expect_next(text, process, MOST_PROCESSES);
+    expect_next(text, process, TAMSKLOR_PROCESSES);
     if (!is_next(text, ":"))
         stop("a : is missing");
     for (skip_blanks(text); **text != '\0'; skip_blanks(text)) {
-        if (plan.ordered == MOST_NODES)
+        if (plan.ordered == TAMSKLOR_NODES)
             stop("there are too many of them");
         plan.order[plan.ordered++] = number(text, most_16_bits);
         plan.length[process]++;
@@ -117,7 +113,7 @@ static void take_process(const char **text)
 static void take_node(const char **text)
 {
     unsigned long node = plan.nodes;
-    expect_next(text, node, MOST_NODES);
+    expect_next(text, node, TAMSKLOR_NODES);
     plan.counter[node] = number_of(text, "counter");
     plan.increment[node] = number_of(text, "increment");
     if (plan.counter[node] >= plan.counters)
@@ -129,7 +125,7 @@ static void take_node(const char **text)
 static void take_edge(const char **text)
 {
     unsigned long edge = plan.edges;
-    if (edge == MOST_EDGES)
+    if (edge == TAMSKLOR_EDGES)
         stop("there are too many of them");
     plan.source[edge] = number(text, most_16_bits);
     plan.destination[edge] = number(text, most_16_bits);
@@ -187,7 +183,7 @@ static void put_32(unsigned long value)
 /* The header; the tables follow it in their order without gaps. */
 static void put_header(void)
 {
-    unsigned long lengths = HEADER_BYTES;
+    unsigned long lengths = TAMSKLOR_HEADER_BYTES;
     unsigned long order = lengths + 2 * plan.processes;
     unsigned long nodes = order + 2 * plan.nodes;
     unsigned long edges = nodes + 4 * plan.nodes;

@@ -19,6 +19,7 @@
 #include "order.h"
 #include "strips.h"
 #include "tamsklor.h"
+#include "tamsklor_text.h"
 
 #ifndef PLANTED
 #define PLANTED 0
@@ -34,7 +35,7 @@ enum {
 };
 
 enum {
-    IMAGE_ROOM = 4096, /* an image has at most 3,620 bytes */
+    IMAGE_ROOM = TAMSKLOR_IMAGE_BYTES + 1, /* a longer image is refused */
     MOST_ROUNDS = 1000000
 };
 
@@ -49,40 +50,20 @@ struct stage {
 };
 
 /* Set before the threads begin, and only read by them. */
-static struct plan_value plan;
-static uint8_t synchronises[PLAN_EDGES];
+static TamsklorPlan plan;
+static uint8_t synchronises[TAMSKLOR_EDGES];
 static unsigned long rounds = 1000, lines = 12;
 
 /* What the lock guards. */
 static pthread_mutex_t lock = PTHREAD_MUTEX_INITIALIZER;
 static pthread_cond_t something_fired = PTHREAD_COND_INITIALIZER;
-static struct run_state state;
+static TamsklorState state;
 static uint16_t *record; /* the nodes in the order of their firings */
 static size_t firings;
 static unsigned long waits;
 static uint32_t present; /* stages that have not ended */
 static uint32_t asleep;  /* those that sleep since the last firing */
 static int stopped;      /* a call was refused, or every stage waits */
-
-/* What a plan is turned down with, and what the place is. */
-static const char *const refusals[17][2] = {
-    {"accepted", ""},
-    {"fewer than 36 bytes", ""},
-    {"format not 1, or bytes 10 and 11 not zero", ""},
-    {"a count or N outside its bounds", ""},
-    {"an offset, the total or the length is not what the counts give", ""},
-    {"a process length is 0 or the lengths do not add up", "process"},
-    {"an order entry is not a node, or a node seen before", "order position"},
-    {"counter unknown or increment too large", "node"},
-    {"an end unknown, too many tokens, or not above the one before", "edge"},
-    {"process edge missing or with wrong tokens", "order position"},
-    {"nodes of several processes share it", "counter"},
-    {"a synchronising out-edge, but increment 0", "node"},
-    {"its sum is 0 or differs from counter 0's", "counter"},
-    {"a cycle without tokens", "node"},
-    {"synchronising edge without a route back", "edge"},
-    {"N is not a multiple of Q", ""},
-    {"N is not above the bound", "edge"}};
 
 /* Ends with a message. */
 static void give_up(const char *what, const char *which)
@@ -100,13 +81,14 @@ static void stop(void)
 
 /* One call on the one state, with the lock held. A refusal is a fault of this
    program. */
-static struct run_answer call(uint32_t code, uint32_t process, uint32_t edge)
+static TamsklorCallAnswer call(uint32_t code, uint32_t process, uint32_t edge)
 {
-    static const char *const names[3] = {"open", "look", "fire"};
-    struct run_answer answer = run_step(&plan, &state, code, process, edge);
-    if (answer.kind == RUN_REFUSED) {
-        printf("process %u: %s refused with %u\n", (unsigned)process,
-               names[code], (unsigned)answer.value);
+    TamsklorCallAnswer answer =
+        tamsklor_run_step(&plan, &state, code, process, edge);
+    if (answer.kind == TAMSKLOR_RUN_REFUSED) {
+        printf("process %u: %s refused with %u: %s\n", (unsigned)process,
+               tamsklor_code_text(code), (unsigned)answer.value,
+               tamsklor_text(answer.value));
         stop();
     }
     return answer;
@@ -135,7 +117,8 @@ static void sleep_until_fire(void)
 /* Looks at one edge until its token is there; the lock is held. */
 static void find_token(uint32_t process, uint32_t edge)
 {
-    while (!stopped && call(RUN_LOOK, process, edge).kind == RUN_WAIT) {
+    while (!stopped &&
+           call(TAMSKLOR_RUN_LOOK, process, edge).kind == TAMSKLOR_RUN_WAIT) {
         if (PLANTED == FAULT_NO_WAIT)
             return;
         sleep_until_fire();
@@ -149,9 +132,9 @@ static int await_tokens(uint32_t process)
     int going;
     pthread_mutex_lock(&lock);
     if (!stopped)
-        call(RUN_OPEN, process, 0);
+        call(TAMSKLOR_RUN_OPEN, process, 0);
     for (uint32_t e = 0; e < plan.edges; e++)
-        if (state.marks[process][e])
+        if (state.marks[TAMSKLOR_MARK(process, e)])
             find_token(process, e);
     going = !stopped;
     pthread_mutex_unlock(&lock);
@@ -162,12 +145,12 @@ static int await_tokens(uint32_t process)
    whether to go on. */
 static int fire(uint32_t process)
 {
-    struct run_answer answer;
+    TamsklorCallAnswer answer;
     int fired = 0;
     pthread_mutex_lock(&lock);
     if (!stopped) {
-        answer = call(RUN_FIRE, process, 0);
-        fired = answer.kind == RUN_FIRED;
+        answer = call(TAMSKLOR_RUN_FIRE, process, 0);
+        fired = answer.kind == TAMSKLOR_RUN_FIRED;
         if (fired)
             record[firings++] = (uint16_t)answer.value;
         asleep = 0;
@@ -273,22 +256,23 @@ static size_t read_file(const char *name, uint8_t *bytes)
 static int prepare(const char *name)
 {
     static uint8_t image[IMAGE_ROOM];
-    struct plan_reading reading = plan_read(image, read_file(name, image));
-    struct run_begun begun;
-    if (reading.number != PLAN_ACCEPTED) {
+    TamsklorPlanRead reading =
+        tamsklor_plan_read(image, read_file(name, image));
+    TamsklorBegun begun;
+    if (reading.number != TAMSKLOR_PLAN_ACCEPTED) {
+        const char *counted = tamsklor_place_text(reading.number);
         printf("refused %u %u\n%s", (unsigned)reading.number,
-               (unsigned)reading.place, refusals[reading.number][0]);
-        if (refusals[reading.number][1][0] != '\0')
-            printf(" (%s %u)", refusals[reading.number][1],
-                   (unsigned)reading.place);
+               (unsigned)reading.place, tamsklor_text(reading.number));
+        if (counted[0] != '\0')
+            printf(" (%s %u)", counted, (unsigned)reading.place);
         printf("\n");
         return 0;
     }
     plan = reading.plan;
     printf("plan %u %u %u\n", (unsigned)plan.q, (unsigned)plan.modulus,
            (unsigned)reading.least);
-    begun = run_begin(plan);
-    if (begun.number != RUN_ACCEPTED)
+    begun = tamsklor_run_begin(&plan);
+    if (begun.number != TAMSKLOR_RUN_ACCEPTED)
         give_up("cannot begin", name);
     state = begun.state;
     for (uint32_t e = 0; e < plan.edges; e++)
@@ -389,13 +373,13 @@ static int readings_agree(const struct marking *marking)
     for (uint32_t e = 0; e < plan.edges; e++) {
         uint32_t end = plan.destination[e];
         uint32_t next = marking->next[order_process(&plan, end)];
-        struct run_token_answer reading;
+        TamsklorTokenAnswer reading;
         if (!synchronises[e] || plan.order[next] != end)
             continue;
-        reading = run_tokens(plan, state, e);
+        reading = tamsklor_run_tokens(&plan, &state, e);
         printf("edge %u-%u holds %u\n", (unsigned)plan.source[e], (unsigned)end,
                (unsigned)reading.count);
-        if (reading.number != RUN_ACCEPTED ||
+        if (reading.number != TAMSKLOR_RUN_ACCEPTED ||
             reading.count != marking->tokens[e])
             agree = 0;
     }
@@ -414,7 +398,7 @@ static unsigned long number(const char *text, unsigned long least)
 
 int main(int arguments, char **argument)
 {
-    static struct stage stages[PLAN_PROCESSES];
+    static struct stage stages[TAMSKLOR_PROCESSES];
     static struct marking marking;
     int agrees;
     if (arguments < 2 || arguments > 4)

@@ -11,13 +11,13 @@ struct strip {
     uint32_t words[STRIP_WORDS];
 };
 
-static struct strip *ring[PLAN_EDGES]; /* NULL: does not synchronise */
+static struct strip *ring[TAMSKLOR_EDGES]; /* NULL: does not synchronise */
 static uint32_t ring_room;
 
 /* What stands in one word of an edge's strip. */
 static uint32_t word(uint32_t edge, uint32_t number, uint32_t at)
 {
-    return number * 2654435761u + edge * PLAN_EDGES + at;
+    return number * 2654435761u + edge * TAMSKLOR_EDGES + at;
 }
 
 void strips_give(uint32_t edge, uint32_t number)
@@ -36,7 +36,7 @@ int strips_take(uint32_t edge, uint32_t number)
     return 1;
 }
 
-int strips_begin(const struct plan_value *plan, uint32_t room)
+int strips_begin(const TamsklorPlan *plan, uint32_t room)
 {
     ring_room = room;
     for (uint32_t e = 0; e < plan->edges; e++) {
@@ -53,7 +53,7 @@ int strips_begin(const struct plan_value *plan, uint32_t room)
 
 void strips_end(void)
 {
-    for (uint32_t e = 0; e < PLAN_EDGES; e++) {
+    for (uint32_t e = 0; e < TAMSKLOR_EDGES; e++) {
         free(ring[e]);
         ring[e] = NULL;
     }

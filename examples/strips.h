@@ -9,7 +9,7 @@
 
 /* Makes the rings, `room` strips each, with the strips of the starting tokens
    in them; returns 0 where there is no memory. */
-int strips_begin(const struct plan_value *plan, uint32_t room);
+int strips_begin(const TamsklorPlan *plan, uint32_t room);
 
 /* Frees the rings. */
 void strips_end(void);

@@ -1,8 +1,8 @@
-/* Every export but plan_check, as the host in C calls it, against the second
-   program: images, plan P's run with the answers 01 gives, runs of accepted
-   plans beside the marked graph, made-up plan values and states in and out of
-   shape. The plan lies where nothing can write or read past it, the state
-   between guard bytes. */
+/* Every export but tamsklor_plan_check, as the host in C calls it, against the
+   second program: images, plan P's run with the answers 01 gives, runs of
+   accepted plans beside the marked graph, made-up plan values and states in
+   and out of shape. The plan lies where nothing can write or read past it, the
+   state between guard bytes. */
 #include <stddef.h>
 #include <stdio.h>
 #include <string.h>
@@ -17,52 +17,53 @@
 #include "second.h"
 #include "shadow.h"
 #include "tamsklor.h"
+#include "tamsklor_text.h"
 
 enum { GUARD = 64, GUARD_BYTE = 0xA5, MOST_COUNT = 65535 };
 
 /* "#[repr(C)]" structs of numbers and arrays: every field at its place. */
-#define LIES_AT(name, type, field, place) \
-    typedef char name[offsetof(struct type, field) == (place) ? 1 : -1]
-#define HAS_BYTES(name, type, bytes) \
-    typedef char name[sizeof(struct type) == (bytes) ? 1 : -1]
+#define LIES_AT(name, type, field, place)                                     \
+    typedef char name[offsetof(type, field) == (place) ? 1 : -1]
+#define HAS_BYTES(name, type, bytes)                                          \
+    typedef char name[sizeof(type) == (bytes) ? 1 : -1]
 
-LIES_AT(nodes_at, plan_value, nodes, 0);
-LIES_AT(processes_at, plan_value, processes, 2);
-LIES_AT(edges_at, plan_value, edges, 4);
-LIES_AT(counters_at, plan_value, counters, 6);
-LIES_AT(modulus_at, plan_value, modulus, 8);
-LIES_AT(q_at, plan_value, q, 12);
-LIES_AT(lengths_at, plan_value, lengths, 16);
-LIES_AT(order_at, plan_value, order, 144);
-LIES_AT(counter_at, plan_value, counter, 272);
-LIES_AT(increment_at, plan_value, increment, 400);
-LIES_AT(source_at, plan_value, source, 528);
-LIES_AT(destination_at, plan_value, destination, 1552);
-LIES_AT(tokens_at, plan_value, tokens, 2576);
-HAS_BYTES(plan_has, plan_value, PLAN_VALUE_BYTES);
-LIES_AT(read_number_at, plan_reading, number, 0);
-LIES_AT(read_place_at, plan_reading, place, 4);
-LIES_AT(read_least_at, plan_reading, least, 8);
-LIES_AT(read_plan_at, plan_reading, plan, 12);
-HAS_BYTES(reading_has, plan_reading, 12 + PLAN_VALUE_BYTES);
-LIES_AT(positions_at, run_state, positions, 0);
-LIES_AT(opened_at, run_state, opened, 128);
-LIES_AT(marks_at, run_state, marks, 192);
-LIES_AT(run_counters_at, run_state, counters, 32960);
-LIES_AT(turn_at, run_state, turn, 33216);
-HAS_BYTES(state_has, run_state, RUN_STATE_BYTES);
-LIES_AT(begun_number_at, run_begun, number, 0);
-LIES_AT(begun_state_at, run_begun, state, 4);
-HAS_BYTES(begun_has, run_begun, 4 + RUN_STATE_BYTES);
-LIES_AT(kind_at, run_answer, kind, 0);
-LIES_AT(value_at, run_answer, value, 4);
-HAS_BYTES(answer_has, run_answer, 8);
-LIES_AT(stepped_answer_at, run_stepped, answer, 0);
-LIES_AT(stepped_state_at, run_stepped, state, 8);
-HAS_BYTES(stepped_has, run_stepped, 8 + RUN_STATE_BYTES);
-LIES_AT(token_number_at, run_token_answer, number, 0);
-LIES_AT(token_count_at, run_token_answer, count, 4);
-HAS_BYTES(token_answer_has, run_token_answer, 8);
+LIES_AT(nodes_at, TamsklorPlan, nodes, 0);
+LIES_AT(processes_at, TamsklorPlan, processes, 2);
+LIES_AT(edges_at, TamsklorPlan, edges, 4);
+LIES_AT(counters_at, TamsklorPlan, counters, 6);
+LIES_AT(modulus_at, TamsklorPlan, modulus, 8);
+LIES_AT(q_at, TamsklorPlan, q, 12);
+LIES_AT(lengths_at, TamsklorPlan, lengths, 16);
+LIES_AT(order_at, TamsklorPlan, order, 144);
+LIES_AT(counter_at, TamsklorPlan, counter, 272);
+LIES_AT(increment_at, TamsklorPlan, increment, 400);
+LIES_AT(source_at, TamsklorPlan, source, 528);
+LIES_AT(destination_at, TamsklorPlan, destination, 1552);
+LIES_AT(tokens_at, TamsklorPlan, tokens, 2576);
+HAS_BYTES(plan_has, TamsklorPlan, TAMSKLOR_PLAN_BYTES);
+LIES_AT(read_number_at, TamsklorPlanRead, number, 0);
+LIES_AT(read_place_at, TamsklorPlanRead, place, 4);
+LIES_AT(read_least_at, TamsklorPlanRead, least, 8);
+LIES_AT(read_plan_at, TamsklorPlanRead, plan, 12);
+HAS_BYTES(reading_has, TamsklorPlanRead, 12 + TAMSKLOR_PLAN_BYTES);
+LIES_AT(positions_at, TamsklorState, positions, 0);
+LIES_AT(opened_at, TamsklorState, opened, 128);
+LIES_AT(marks_at, TamsklorState, marks, 192);
+LIES_AT(run_counters_at, TamsklorState, counters, 32960);
+LIES_AT(turn_at, TamsklorState, turn, 33216);
+HAS_BYTES(state_has, TamsklorState, TAMSKLOR_STATE_BYTES);
+LIES_AT(begun_number_at, TamsklorBegun, number, 0);
+LIES_AT(begun_state_at, TamsklorBegun, state, 4);
+HAS_BYTES(begun_has, TamsklorBegun, 4 + TAMSKLOR_STATE_BYTES);
+LIES_AT(kind_at, TamsklorCallAnswer, kind, 0);
+LIES_AT(value_at, TamsklorCallAnswer, value, 4);
+HAS_BYTES(answer_has, TamsklorCallAnswer, 8);
+LIES_AT(stepped_answer_at, TamsklorStepped, answer, 0);
+LIES_AT(stepped_state_at, TamsklorStepped, state, 8);
+HAS_BYTES(stepped_has, TamsklorStepped, 8 + TAMSKLOR_STATE_BYTES);
+LIES_AT(token_number_at, TamsklorTokenAnswer, number, 0);
+LIES_AT(token_count_at, TamsklorTokenAnswer, count, 4);
+HAS_BYTES(token_answer_has, TamsklorTokenAnswer, 8);
 
 static unsigned long images, accepted, calls, readings, begins;
 static unsigned long refused[28];    /* calls and readings, by number */
@@ -72,29 +73,29 @@ static unsigned long begins_refused;
 static unsigned long longest;        /* calls of one run */
 
 /* The plan and the state on both sides. */
-static const struct plan_value *plan; /* read-only, at an edge of memory */
+static const TamsklorPlan *plan; /* read-only, at an edge of memory */
 static struct second_plan second_plan;
 static struct second_state second_state;
 
 /* The host's one state, and an answer by value, between guard bytes. */
 static struct {
     uint8_t before[GUARD];
-    struct run_state state;
+    TamsklorState state;
     uint8_t after[GUARD];
 } kept;
 static struct {
     uint8_t before[GUARD];
-    struct plan_reading reading;
+    TamsklorPlanRead reading;
     uint8_t after[GUARD];
 } read_out;
 static struct {
     uint8_t before[GUARD];
-    struct run_begun begun;
+    TamsklorBegun begun;
     uint8_t after[GUARD];
 } begun_out;
 static struct {
     uint8_t before[GUARD];
-    struct run_stepped stepped;
+    TamsklorStepped stepped;
     uint8_t after[GUARD];
 } stepped_out;
 
@@ -115,7 +116,7 @@ static int guards_whole(const uint8_t *before, const uint8_t *after)
 }
 
 /* A plan value of the second program as the host holds it. */
-static void host_plan(const struct second_plan *from, struct plan_value *to)
+static void host_plan(const struct second_plan *from, TamsklorPlan *to)
 {
     to->nodes = (uint16_t)from->nodes;
     to->processes = (uint16_t)from->processes;
@@ -133,15 +134,15 @@ static void host_plan(const struct second_plan *from, struct plan_value *to)
 }
 
 /* Whether every byte of a host's plan is the second program's. */
-static int same_plan(const struct plan_value *a, const struct second_plan *b)
+static int same_plan(const TamsklorPlan *a, const struct second_plan *b)
 {
-    static struct plan_value expected;
+    static TamsklorPlan expected;
     host_plan(b, &expected);
     return memcmp(a, &expected, sizeof expected) == 0;
 }
 
 /* A state of the second program as the host holds it. */
-static void host_state(const struct second_state *from, struct run_state *to)
+static void host_state(const struct second_state *from, TamsklorState *to)
 {
     memcpy(to->positions, from->position, sizeof to->positions);
     memcpy(to->opened, from->open, sizeof to->opened);
@@ -151,7 +152,7 @@ static void host_state(const struct second_state *from, struct run_state *to)
 }
 
 /* Whether every field of a host's state is the second program's. */
-static int same_state(const struct run_state *a, const struct second_state *b)
+static int same_state(const TamsklorState *a, const struct second_state *b)
 {
     return memcmp(a->positions, b->position, sizeof a->positions) == 0 &&
            memcmp(a->opened, b->open, sizeof a->opened) == 0 &&
@@ -170,7 +171,7 @@ static uint32_t held(uint32_t count)
    can be read. */
 static void take_plan(const struct second_plan *value)
 {
-    static struct plan_value copy;
+    static TamsklorPlan copy;
     static unsigned long taken;
     const void *at;
     second_plan = *value;
@@ -206,11 +207,11 @@ static void count(struct second_answer answer)
 static uint32_t kind_number(enum second_kind kind)
 {
     switch (kind) {
-    case SECOND_OPENED: return RUN_OPENED;
-    case SECOND_FOUND: return RUN_FOUND;
-    case SECOND_WAIT: return RUN_WAIT;
-    case SECOND_FIRED: return RUN_FIRED;
-    default: return RUN_REFUSED;
+    case SECOND_OPENED: return TAMSKLOR_RUN_OPENED;
+    case SECOND_FOUND: return TAMSKLOR_RUN_FOUND;
+    case SECOND_WAIT: return TAMSKLOR_RUN_WAIT;
+    case SECOND_FIRED: return TAMSKLOR_RUN_FIRED;
+    default: return TAMSKLOR_RUN_REFUSED;
     }
 }
 
@@ -218,11 +219,12 @@ static uint32_t kind_number(enum second_kind kind)
    as it was. */
 static void step_by_value(uint32_t code, uint32_t process, uint32_t edge)
 {
-    static struct run_state before;
+    static TamsklorState before;
     before = kept.state;
     set_guards(stepped_out.before, stepped_out.after);
     memset(&stepped_out.stepped, GUARD_BYTE, sizeof stepped_out.stepped);
-    stepped_out.stepped = run_stepped(*plan, kept.state, code, process, edge);
+    stepped_out.stepped =
+        tamsklor_run_stepped(*plan, kept.state, code, process, edge);
     check(memcmp(&before, &kept.state, sizeof before) == 0 &&
               guards_whole(kept.before, kept.after) &&
               guards_whole(stepped_out.before, stepped_out.after),
@@ -233,25 +235,25 @@ static void step_by_value(uint32_t code, uint32_t process, uint32_t edge)
 static struct second_answer compare_step(uint32_t code, uint32_t process,
                                          uint32_t edge)
 {
-    static struct run_state before;
-    struct run_answer got;
+    static TamsklorState before;
+    TamsklorCallAnswer got;
     struct second_answer expected =
         second_step(&second_plan, &second_state, code, process, edge);
     before = kept.state;
     step_by_value(code, process, edge);
-    got = run_step(plan, &kept.state, code, process, edge);
+    got = tamsklor_run_step(plan, &kept.state, code, process, edge);
     check(memcmp(&got, &stepped_out.stepped.answer, sizeof got) == 0 &&
               memcmp(&kept.state, &stepped_out.stepped.state,
                      sizeof kept.state) == 0,
-          "run_step and run_stepped", calls);
+          "tamsklor_run_step and tamsklor_run_stepped", calls);
     check(got.kind == kind_number(expected.kind) &&
               got.value == expected.value,
-          "run_step and the second program", calls);
+          "tamsklor_run_step and the second program", calls);
     check(same_state(&kept.state, &second_state),
-          "run_step's state and the second program", calls);
+          "tamsklor_run_step's state and the second program", calls);
     check(guards_whole(kept.before, kept.after), "bytes around the state",
           calls);
-    if (got.kind == RUN_REFUSED)
+    if (got.kind == TAMSKLOR_RUN_REFUSED)
         check(memcmp(&before, &kept.state, sizeof before) == 0,
               "state after a refused call", calls);
     else
@@ -264,16 +266,16 @@ static struct second_answer compare_step(uint32_t code, uint32_t process,
 /* One token reading on both sides. */
 static void compare_tokens(uint32_t edge)
 {
-    static struct run_state before;
-    struct run_token_answer got;
+    static TamsklorState before;
+    TamsklorTokenAnswer got;
     struct second_answer expected =
         second_token_reading(&second_plan, &second_state, edge);
     int is_read = expected.kind == SECOND_TOKENS_READ;
     before = kept.state;
-    got = run_tokens(*plan, kept.state, edge);
-    check(got.number == (is_read ? RUN_ACCEPTED : expected.value) &&
+    got = tamsklor_run_tokens(plan, &kept.state, edge);
+    check(got.number == (is_read ? TAMSKLOR_RUN_ACCEPTED : expected.value) &&
               got.count == (is_read ? expected.value : 0),
-          "run_tokens and the second program", readings);
+          "tamsklor_run_tokens and the second program", readings);
     check(memcmp(&before, &kept.state, sizeof before) == 0 &&
               guards_whole(kept.before, kept.after),
           "state after a token reading", readings);
@@ -285,14 +287,14 @@ static void compare_tokens(uint32_t edge)
 static void compare_begin(void)
 {
     static struct second_state fresh;
-    static const struct run_state zero;
+    static const TamsklorState zero;
     uint32_t expected = second_begin(&second_plan, &fresh);
     memset(&begun_out.begun, 0x5A, sizeof begun_out.begun);
     set_guards(begun_out.before, begun_out.after);
-    begun_out.begun = run_begin(*plan);
+    begun_out.begun = tamsklor_run_begin(plan);
     check(begun_out.begun.number == expected &&
               same_state(&begun_out.begun.state, &fresh),
-          "run_begin and the second program", begins);
+          "tamsklor_run_begin and the second program", begins);
     check(memcmp(&begun_out.begun.state, &zero, sizeof zero) == 0,
           "state begun is all 0", begins);
     check(guards_whole(begun_out.before, begun_out.after),
@@ -301,27 +303,28 @@ static void compare_begin(void)
     begins_refused += expected != 0;
 }
 
-/* One image through plan_read, into a struct that held something else. */
+/* One image through tamsklor_plan_read, into a struct that held something
+   else. */
 static uint32_t compare_read(const uint8_t *bytes, size_t length)
 {
     static struct second_reading expected;
-    static const struct plan_value zero;
+    static const TamsklorPlan zero;
     const uint8_t *image = images % 2 == 0 ? guarded_to_end(bytes, length)
                                            : guarded_from_start(bytes, length);
-    struct plan_reading *got = &read_out.reading;
-    struct plan_verdict verdict = plan_check(image, length);
+    TamsklorPlanRead *got = &read_out.reading;
+    TamsklorVerdict verdict = tamsklor_plan_check(image, length);
     expected = second_read(bytes, length);
     memset(got, 0x5A, sizeof *got);
     set_guards(read_out.before, read_out.after);
-    *got = plan_read(image, length);
+    *got = tamsklor_plan_read(image, length);
     check(got->number == expected.number && got->place == expected.place &&
               got->least == expected.least,
-          "plan_read and the second program", images);
+          "tamsklor_plan_read and the second program", images);
     check(same_plan(&got->plan, &expected.plan),
-          "plan_read's plan and the second program", images);
+          "tamsklor_plan_read's plan and the second program", images);
     check(got->number == verdict.number && got->place == verdict.place &&
               got->least == verdict.least,
-          "plan_read and plan_check", images);
+          "tamsklor_plan_read and tamsklor_plan_check", images);
     check(got->number == 0 || memcmp(&got->plan, &zero, sizeof zero) == 0,
           "all 0 after a refusal", images);
     check(guards_whole(read_out.before, read_out.after),
@@ -337,7 +340,8 @@ static void begin_run(const struct sketch *sketch)
     static struct picture picture;
     static struct second_state fresh;
     sketch_picture(sketch, &picture);
-    check(compare_read(picture.bytes, picture.length) == PLAN_ACCEPTED,
+    check(compare_read(picture.bytes, picture.length) ==
+              TAMSKLOR_PLAN_ACCEPTED,
           "drawn plan accepted", images);
     take_plan(&(struct second_plan){0});
     compare_begin();
@@ -346,7 +350,8 @@ static void begin_run(const struct sketch *sketch)
           "the plan that was drawn", images);
     take_plan(&second_plan);
     compare_begin();
-    check(begun_out.begun.number == RUN_ACCEPTED, "drawn plan begins", begins);
+    check(begun_out.begun.number == TAMSKLOR_RUN_ACCEPTED, "drawn plan begins",
+          begins);
     memset(&fresh, 0, sizeof fresh);
     take_state(&fresh);
     kept.state = begun_out.begun.state;
@@ -356,20 +361,24 @@ static void begin_run(const struct sketch *sketch)
 static void try_plan_p(void)
 {
     static const uint32_t run[9][5] = {
-        {RUN_OPEN, 0, 0, RUN_OPENED, 1}, {RUN_LOOK, 0, 4, RUN_FOUND, 0},
-        {RUN_FIRE, 0, 0, RUN_FIRED, 0},  {RUN_OPEN, 0, 0, RUN_OPENED, 0},
-        {RUN_FIRE, 0, 0, RUN_FIRED, 1},  {RUN_OPEN, 1, 0, RUN_OPENED, 1},
-        {RUN_LOOK, 1, 2, RUN_FOUND, 0},
-        {RUN_LOOK, 1, 2, RUN_REFUSED, RUN_NOT_MARKED},
-        {RUN_FIRE, 1, 0, RUN_FIRED, 2}};
+        {TAMSKLOR_RUN_OPEN, 0, 0, TAMSKLOR_RUN_OPENED, 1},
+        {TAMSKLOR_RUN_LOOK, 0, 4, TAMSKLOR_RUN_FOUND, 0},
+        {TAMSKLOR_RUN_FIRE, 0, 0, TAMSKLOR_RUN_FIRED, 0},
+        {TAMSKLOR_RUN_OPEN, 0, 0, TAMSKLOR_RUN_OPENED, 0},
+        {TAMSKLOR_RUN_FIRE, 0, 0, TAMSKLOR_RUN_FIRED, 1},
+        {TAMSKLOR_RUN_OPEN, 1, 0, TAMSKLOR_RUN_OPENED, 1},
+        {TAMSKLOR_RUN_LOOK, 1, 2, TAMSKLOR_RUN_FOUND, 0},
+        {TAMSKLOR_RUN_LOOK, 1, 2, TAMSKLOR_RUN_REFUSED,
+         TAMSKLOR_RUN_NOT_MARKED},
+        {TAMSKLOR_RUN_FIRE, 1, 0, TAMSKLOR_RUN_FIRED, 2}};
     static struct sketch sketch;
-    static struct run_state state;
-    struct run_answer got;
+    static TamsklorState state;
+    TamsklorCallAnswer got;
     hand_plan_p(&sketch);
     begin_run(&sketch);
     state = kept.state;
     for (int i = 0; i < 9; i++) {
-        got = run_step(plan, &state, run[i][0], run[i][1], run[i][2]);
+        got = tamsklor_run_step(plan, &state, run[i][0], run[i][1], run[i][2]);
         check(got.kind == run[i][3] && got.value == run[i][4],
               "a call of 01", (unsigned long)i);
     }
@@ -420,12 +429,12 @@ static void try_progress(struct random *random)
         p = random_below(random, second_plan.processes);
     for (uint32_t e = 0; e < SECOND_EDGES; e++)
         if (second_state.mark[p][e]) {
-            compare_step(RUN_LOOK, p, e);
+            compare_step(TAMSKLOR_RUN_LOOK, p, e);
             if (random_one_in(random, 4))
-                compare_step(RUN_LOOK, p, e);
+                compare_step(TAMSKLOR_RUN_LOOK, p, e);
         }
-    compare_step(RUN_FIRE, p, some_number(random, 3));
-    compare_step(RUN_OPEN, p, some_number(random, 3));
+    compare_step(TAMSKLOR_RUN_FIRE, p, some_number(random, 3));
+    compare_step(TAMSKLOR_RUN_OPEN, p, some_number(random, 3));
 }
 
 /* Calls and readings on the plan and state taken. */
@@ -472,7 +481,8 @@ static void try_images(struct random *random, unsigned long rounds)
 {
     static struct damaged damaged;
     static struct picture picture;
-    check(compare_read(NULL, 0) == PLAN_HEADER_CUT, "NULL and 0 bytes", 0);
+    check(compare_read(NULL, 0) == TAMSKLOR_PLAN_HEADER_CUT,
+          "NULL and 0 bytes", 0);
     for (unsigned long round = 0; round < rounds; round++)
         for (uint32_t number = 1; number <= 16; number++) {
             uint32_t way = (uint32_t)(round % damage_ways(number));
@@ -485,11 +495,16 @@ static void try_images(struct random *random, unsigned long rounds)
         }
 }
 
+/* Words for a kind of answer. */
+static const char *kind_name(enum second_kind kind)
+{
+    return kind == SECOND_TOKENS_READ ? "tokens read"
+                                      : tamsklor_kind_text(kind_number(kind));
+}
+
 /* Prints the counts and holds them against their floors. */
 static void show_counts(unsigned long size)
 {
-    static const char *const names[] = {"refused", "opened", "found",
-                                        "wait", "fired", "tokens read"};
     printf("images %lu (accepted %lu), begins %lu (refused %lu), calls %lu, "
            "readings %lu\n",
            images, accepted, begins, begins_refused, calls, readings);
@@ -501,11 +516,13 @@ static void show_counts(unsigned long size)
     check_floor("turn numbers round to 0", turns_round, size / 1000);
     check_floor("begins refused", begins_refused, size / 1000);
     for (uint32_t kind = 0; kind < 6; kind++) {
-        printf("%s %lu\n", names[kind], kinds[kind]);
-        check_floor(names[kind], kinds[kind], size / 100);
+        const char *name = kind_name((enum second_kind)kind);
+        printf("%s %lu\n", name, kinds[kind]);
+        check_floor(name, kinds[kind], size / 100);
     }
     for (uint32_t number = 20; number <= 27; number++) {
-        printf("number %u: met %lu\n", (unsigned)number, refused[number]);
+        printf("number %u, %s: met %lu\n", (unsigned)number,
+               tamsklor_text(number), refused[number]);
         check_floor("number met", refused[number], size / 200);
     }
 }

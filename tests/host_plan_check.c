@@ -1,6 +1,6 @@
-/* plan_check, as the host in C calls it, against the second program: drawn
-   images on both sides of every bound, cut ones, each byte of the header with
-   each value, random bytes, and 01's own plans with the answers 01 gives. */
+/* tamsklor_plan_check, as the host in C calls it, against the second program:
+   drawn images on both sides of every bound, cut ones, each byte of the header
+   with each value, random bytes, and 01's own plans with 01's answers. */
 #include <stddef.h>
 #include <stdio.h>
 #include <stdlib.h>
@@ -23,13 +23,10 @@ enum {
 };
 
 /* "a #[repr(C)] struct of three u32": three numbers without gaps. */
-typedef char verdict_has_12_bytes[sizeof(struct plan_verdict) == 12 ? 1 : -1];
-typedef char number_is_first
-    [offsetof(struct plan_verdict, number) == 0 ? 1 : -1];
-typedef char place_is_second
-    [offsetof(struct plan_verdict, place) == 4 ? 1 : -1];
-typedef char least_is_third
-    [offsetof(struct plan_verdict, least) == 8 ? 1 : -1];
+typedef char verdict_has_12_bytes[sizeof(TamsklorVerdict) == 12 ? 1 : -1];
+typedef char number_is_first[offsetof(TamsklorVerdict, number) == 0 ? 1 : -1];
+typedef char place_is_second[offsetof(TamsklorVerdict, place) == 4 ? 1 : -1];
+typedef char least_is_third[offsetof(TamsklorVerdict, least) == 8 ? 1 : -1];
 
 static unsigned long inputs, different_inputs;
 static unsigned long met[NUMBERS];               /* answers by number */
@@ -38,16 +35,16 @@ static unsigned long beside[NUMBERS];            /* good sides of its bound */
 static unsigned long by_way[NUMBERS][MOST_WAYS]; /* ways it was broken in */
 
 /* Whether two verdicts are the same. */
-static int same(struct plan_verdict a, struct plan_verdict b)
+static int same(TamsklorVerdict a, TamsklorVerdict b)
 {
     return a.number == b.number && a.place == b.place && a.least == b.least;
 }
 
 /* The second program's answer as a verdict. */
-static struct plan_verdict second_verdict(const uint8_t *image, size_t length)
+static TamsklorVerdict second_verdict(const uint8_t *image, size_t length)
 {
     struct second_reading reading = second_read(image, length);
-    struct plan_verdict verdict;
+    TamsklorVerdict verdict;
     verdict.number = reading.number;
     verdict.place = reading.place;
     verdict.least = reading.least;
@@ -55,7 +52,7 @@ static struct plan_verdict second_verdict(const uint8_t *image, size_t length)
 }
 
 /* Counts an answer; a number or place beyond 01's is a difference. */
-static void count(struct plan_verdict verdict)
+static void count(TamsklorVerdict verdict)
 {
     int known = verdict.number < NUMBERS && verdict.place < PLACES;
     check(known, "number and place in range", inputs);
@@ -78,19 +75,21 @@ static uint8_t *exact_copy(const uint8_t *bytes, size_t length)
     return copy;
 }
 
-/* One image: plan_check in three places against the second program. */
-static struct plan_verdict compare(const uint8_t *bytes, size_t length)
+/* One image: the plan check in three places against the second program. */
+static TamsklorVerdict compare(const uint8_t *bytes, size_t length)
 {
     uint8_t *copy = exact_copy(bytes, length);
-    struct plan_verdict expected = second_verdict(copy, length);
-    struct plan_verdict got = plan_check(copy, length);
+    TamsklorVerdict expected = second_verdict(copy, length);
+    TamsklorVerdict got = tamsklor_plan_check(copy, length);
     int all_same = same(got, expected);
-    check(all_same, "plan_check and the second program", inputs);
+    check(all_same, "tamsklor_plan_check and the second program", inputs);
     check(length == 0 || memcmp(copy, bytes, length) == 0,
           "image as it was", inputs);
-    check(same(got, plan_check(guarded_to_end(bytes, length), length)),
-          "the same at the end of a page", inputs);
-    check(same(got, plan_check(guarded_from_start(bytes, length), length)),
+    check(
+        same(got, tamsklor_plan_check(guarded_to_end(bytes, length), length)),
+        "the same at the end of a page", inputs);
+    check(same(got,
+               tamsklor_plan_check(guarded_from_start(bytes, length), length)),
           "the same at the start of a page", inputs);
     different_inputs += !all_same;
     count(got);
@@ -100,7 +99,7 @@ static struct plan_verdict compare(const uint8_t *bytes, size_t length)
 }
 
 /* Compares an answer with what the generator aimed at. */
-static void compare_aim(struct plan_verdict got, struct aim aim)
+static void compare_aim(TamsklorVerdict got, struct aim aim)
 {
     check(got.number == aim.number, "number aimed at", inputs - 1);
     if (aim.place_known)
@@ -112,7 +111,7 @@ static void try_damage(struct random *random, uint32_t number, uint32_t way,
                        uint32_t most_nodes)
 {
     static struct damaged damaged;
-    struct plan_verdict before;
+    TamsklorVerdict before;
     damage_plan(random, number, way, most_nodes, &damaged);
     before = compare(damaged.before.bytes, damaged.before.length);
     compare_aim(before, damaged.before_aim);
@@ -139,7 +138,7 @@ static void try_others(struct random *random, unsigned long rounds)
     static struct picture picture;
     for (unsigned long round = 0; round < rounds; round++) {
         struct wish wish = {0};
-        struct plan_verdict got;
+        TamsklorVerdict got;
         wish.most_nodes = round % 4 == 3 ? 64 : 7;
         draw_plan(random, &wish, &sketch);
         sketch_picture(&sketch, &picture);
@@ -172,7 +171,7 @@ static void try_random_bytes(struct random *random, unsigned long rounds)
 static void try_prefixes(const struct picture *picture)
 {
     for (size_t length = 0; length < PREFIXES; length++) {
-        struct plan_verdict got = compare(picture->bytes, length);
+        TamsklorVerdict got = compare(picture->bytes, length);
         check(got.number == (length < 36 ? 1 : 4) && got.place == 0,
               "a prefix is 1 or 4", inputs - 1);
     }
@@ -210,7 +209,8 @@ static void try_headers(struct random *random)
     wish.parts = 1;
     draw_plan(random, &wish, &sketch);
     sketch_picture(&sketch, &picture);
-    check(picture.length == 36 + 2 * sketch.processes + 6 * 64 + 6 * 512,
+    check(picture.length == TAMSKLOR_HEADER_BYTES + 2 * sketch.processes +
+                                6 * TAMSKLOR_NODES + 6 * TAMSKLOR_EDGES,
           "a plan at the bounds", inputs);
     try_prefixes(&picture);
     try_header_bytes(&picture);
@@ -219,10 +219,10 @@ static void try_headers(struct random *random)
 /* No bytes at all, with and without an address. */
 static void try_empty(void)
 {
-    static const struct plan_verdict cut = {PLAN_HEADER_CUT, 0, 0};
+    static const TamsklorVerdict cut = {TAMSKLOR_PLAN_HEADER_CUT, 0, 0};
     static const uint8_t byte = 1;
-    check(same(plan_check(NULL, 0), cut), "NULL and 0 bytes", inputs);
-    check(same(plan_check(&byte, 0), cut), "0 bytes", inputs);
+    check(same(tamsklor_plan_check(NULL, 0), cut), "NULL and 0 bytes", inputs);
+    check(same(tamsklor_plan_check(&byte, 0), cut), "0 bytes", inputs);
 }
 
 /* A plan of 01 and the answer that 01 gives. */
@@ -230,7 +230,7 @@ static void expect(const struct sketch *sketch, uint32_t number,
                    uint32_t place, uint32_t least)
 {
     static struct picture picture;
-    struct plan_verdict expected;
+    TamsklorVerdict expected;
     expected.number = number;
     expected.place = place;
     expected.least = least;
@@ -252,24 +252,24 @@ static void plan_p_with(struct sketch *sketch, uint32_t increment,
 static void try_plan_p(struct sketch *sketch)
 {
     plan_p_with(sketch, 1, 4);
-    expect(sketch, PLAN_ACCEPTED, 0, 4);
+    expect(sketch, TAMSKLOR_PLAN_ACCEPTED, 0, 4);
     plan_p_with(sketch, 1, 3);
-    expect(sketch, PLAN_MODULUS_TOO_SMALL, 2, 0);
+    expect(sketch, TAMSKLOR_PLAN_MODULUS_TOO_SMALL, 2, 0);
     plan_p_with(sketch, 1, 4);
     sketch_drop_edge(sketch, 4);
-    expect(sketch, PLAN_NO_ROUTE_BACK, 2, 0);
+    expect(sketch, TAMSKLOR_PLAN_NO_ROUTE_BACK, 2, 0);
     hand_plan(sketch, "0 1|2 3", "0-1:0 1-0:1 1-2:0 1-2:0 2-3:0 3-0:3 3-2:1",
               "0 0 1 1", "0 1 0 1", 4);
-    expect(sketch, PLAN_EDGE_WRONG, 3, 0);
+    expect(sketch, TAMSKLOR_PLAN_EDGE_WRONG, 3, 0);
     plan_p_with(sketch, 2, 7);
-    expect(sketch, PLAN_MODULUS_NO_MULTIPLE, 0, 0);
+    expect(sketch, TAMSKLOR_PLAN_MODULUS_NO_MULTIPLE, 0, 0);
     plan_p_with(sketch, 2, 6);
-    expect(sketch, PLAN_MODULUS_TOO_SMALL, 2, 0);
+    expect(sketch, TAMSKLOR_PLAN_MODULUS_TOO_SMALL, 2, 0);
     plan_p_with(sketch, 2, 8);
-    expect(sketch, PLAN_ACCEPTED, 0, 8);
+    expect(sketch, TAMSKLOR_PLAN_ACCEPTED, 0, 8);
     plan_p_with(sketch, 1, 4);
     sketch_add_edge(sketch, 0, 0, 0);
-    expect(sketch, PLAN_CYCLE_WITHOUT_TOKENS, 0, 0);
+    expect(sketch, TAMSKLOR_PLAN_CYCLE_WITHOUT_TOKENS, 0, 0);
 }
 
 /* "Plans on each side of a bound": one node, and the ring. */
@@ -277,13 +277,13 @@ static void try_small_plans(struct sketch *sketch)
 {
     static const char ring[] = "0-0:1 0-1:1 1-1:1 1-2:1 2-0:1 2-2:1";
     hand_plan(sketch, "0", "0-0:1", "0", "1", 1);
-    expect(sketch, PLAN_ACCEPTED, 0, 1);
+    expect(sketch, TAMSKLOR_PLAN_ACCEPTED, 0, 1);
     hand_plan(sketch, "0", "0-0:1", "0", "0", 1);
-    expect(sketch, PLAN_SUM_WRONG, 0, 0);
+    expect(sketch, TAMSKLOR_PLAN_SUM_WRONG, 0, 0);
     hand_plan(sketch, "0|1|2", ring, "0 1 2", "1 1 1", 3);
-    expect(sketch, PLAN_MODULUS_TOO_SMALL, 1, 0);
+    expect(sketch, TAMSKLOR_PLAN_MODULUS_TOO_SMALL, 1, 0);
     hand_plan(sketch, "0|1|2", ring, "0 1 2", "1 1 1", 4);
-    expect(sketch, PLAN_ACCEPTED, 0, 4);
+    expect(sketch, TAMSKLOR_PLAN_ACCEPTED, 0, 4);
 }
 
 /* How many different places a number was given at. */

@@ -1,5 +1,6 @@
 -- The numbers that the host gets back (01: "it calls the plan check with the image's bytes and gets numbers back"), for each case of each answer.
 -- Definitions only. Assumes nothing.
+use Prim.Native.Nat.{ℕ, _+_, _*_}
 use Rattle.plan.specs.declared.Plan.{Plan}
 use Rattle.judge.specs.declared.Answer.{Answer}
 use Rattle.judge.specs.declared.Answer.the-variants.{Accepted, Refused}
@@ -9,11 +10,17 @@ use Rattle.machine.specs.declared.Reply.{Reply}
 use Rattle.machine.specs.declared.Reply.the-variants as reply
 use Rattle.machine.specs.declared.Level.{Level}
 use Rattle.machine.specs.declared.Level.the-variants.{Tokens, Unread}
+use Rattle.tamsklor.specs.declared.Outcome.{Outcome}
 use Rattle.tamsklor.specs.declared.Verdict.{Verdict}
 use Rattle.tamsklor.specs.declared.PlanRead.{PlanRead}
 use Rattle.tamsklor.specs.declared.Begun.{Begun}
 use Rattle.tamsklor.specs.declared.CallAnswer.{CallAnswer}
 use Rattle.tamsklor.specs.declared.TokenAnswer.{TokenAnswer}
+
+-- refusal number (0: accepted) and place
+unfoldable pub outcome : Answer → Outcome
+outcome (Accepted q modulus least) = record { number = 0; place = 0 }
+outcome (Refused number place) = record { number = number; place = place }
 
 -- refusal number (0: accepted), place, and least modulus (0 after a refusal)
 unfoldable pub numbers-of : Answer → Verdict
@@ -43,3 +50,7 @@ numbers-of-reply (reply.Refused number) = record { kind = 0; value = number }
 unfoldable pub numbers-of-level : Level → TokenAnswer
 numbers-of-level (Tokens count) = record { number = 0; count = count }
 numbers-of-level (Unread number) = record { number = number; count = 0 }
+
+-- the version, major, minor and patch number in one
+abbrev pub version : ℕ
+version = 0 * 10000 + 2 * 100 + 0

@@ -1,4 +1,4 @@
--- Each export's promise leaves room for one answer, and that of `run_step` for one state afterwards.
+-- Each export's promise leaves room for one answer, and that of `tamsklor_run_step` for one state afterwards.
 -- Assumes nothing.
 use mathlib.Core.Path.{_≡_, ap, _∙_}
 use mathlib.Core.List.{List}
@@ -14,7 +14,7 @@ use Rattle.tamsklor.specs.declared.Begun.{Begun}
 use Rattle.tamsklor.specs.declared.CallAnswer.{CallAnswer}
 use Rattle.tamsklor.specs.declared.Stepped.{Stepped}
 use Rattle.tamsklor.specs.declared.TokenAnswer.{TokenAnswer}
-use Rattle.tamsklor.specs.Numbers.{numbers-of, numbers-of-reading, numbers-of-begin, numbers-of-reply, numbers-of-level}
+use Rattle.tamsklor.specs.Numbers.{numbers-of, numbers-of-reading, numbers-of-begin, numbers-of-reply, numbers-of-level, version}
 
 pub check-unique : (s : List ℕ) {r r′ : Verdict} → r ≡ numbers-of (verdict s) → r′ ≡ numbers-of (verdict s) → r ≡ r′
 check-unique s = one-answer
@@ -25,7 +25,7 @@ read-unique s = one-answer
 pub begin-unique : (pl : Plan) {r r′ : Begun} → r ≡ numbers-of-begin (begin-run pl) → r′ ≡ numbers-of-begin (begin-run pl) → r ≡ r′
 begin-unique pl = one-answer
 
--- what the promises of `run_step` and `run_stepped` say of an answer and of the state afterwards
+-- what the promises of `tamsklor_run_step` and `tamsklor_run_stepped` say of an answer and of the state afterwards
 abbrev pub StepPromise : Plan → State → ℕ → ℕ → ℕ → CallAnswer → State → Type 0
 StepPromise pl st code p e r after = (r ≡ numbers-of-reply (step-call pl st code p e .reply)) × (after ≡ step-call pl st code p e .state)
 
@@ -41,3 +41,6 @@ stepped-unique pl st code p e {r} {r′} kept kept′ =
 
 pub tokens-unique : (pl : Plan) (st : State) (e : ℕ) {r r′ : TokenAnswer} → r ≡ numbers-of-level (reading-call pl st e) → r′ ≡ numbers-of-level (reading-call pl st e) → r ≡ r′
 tokens-unique pl st e = one-answer
+
+pub version-unique : {r r′ : ℕ} → r ≡ version → r′ ≡ version → r ≡ r′
+version-unique = one-answer

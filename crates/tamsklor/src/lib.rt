@@ -2,7 +2,7 @@
 ghost use mathlib.Core.Path.{_≡_};
 ghost use Rattle.reader.specs.Tests.{verdict, reading-of};
 ghost use Rattle.machine.specs.Calls.{begin-run, step-call, reading-call};
-ghost use Rattle.tamsklor.specs.Numbers.{numbers-of, beside-plan, numbers-of-reading, numbers-of-begin, numbers-of-reply, numbers-of-level};
+ghost use Rattle.tamsklor.specs.Numbers.{outcome, numbers-of, numbers-of-reading, numbers-of-begin, numbers-of-reply, numbers-of-level, version};
 use judge::Answer;
 use machine::Level;
 use machine::Reply;
@@ -54,38 +54,26 @@ pub struct TokenAnswer {
     pub count: u32,
 }
 
-// An answer as the three numbers.
-fn as_numbers(answer: Answer) -> Verdict
-    ensures { λ r. ⌜ r ≡ numbers-of answer ⌝ }
-{
-    match answer {
-        Answer::Accepted {
-            q: _,
-            modulus: _,
-            least,
-        } => Verdict {
-            number: 0,
-            place: 0,
-            least,
-        },
-        Answer::Refused { number, place } => Verdict {
-            number,
-            place,
-            least: 0,
-        },
-    }
+// What stands for the least modulus after a refusal.
+const NO_LEAST: u32 = 0;
+
+// Number and place of an answer, both 0 for an accepted plan.
+struct Outcome {
+    number: u32,
+    place: u32,
 }
 
-// The three numbers with the plan beside them.
-fn with_plan(verdict: Verdict, plan: Plan) -> PlanRead
-    ensures { λ r. ⌜ r ≡ beside-plan verdict plan ⌝ }
+// The number and the place of an answer.
+fn outcome_of(answer: Answer) -> Outcome
+    ensures { λ r. ⌜ r ≡ outcome answer ⌝ }
 {
-    PlanRead {
-        number: verdict.number,
-        place: verdict.place,
-        least: verdict.least,
-        plan,
-    }
+    let Answer::Refused { number, place } = answer else {
+        return Outcome {
+            number: 0,
+            place: 0,
+        };
+    };
+    Outcome { number, place }
 }
 
 // A call's reply as two numbers.
@@ -128,7 +116,7 @@ fn as_token_answer(level: Level) -> TokenAnswer
 
 // One call on a plan and a state by value: the answer as numbers, and the state that it leaves.
 #[no_mangle]
-pub extern "C" fn run_stepped(
+pub extern "C" fn tamsklor_run_stepped(
     plan: Plan,
     state: State,
     code: u32,
@@ -148,53 +136,63 @@ pub extern "C" fn run_stepped(
 
 // The plan check over the image's bytes.
 #[no_mangle]
-pub extern "C" fn plan_check(image: &[u8]) -> Verdict
+pub extern "C" fn tamsklor_plan_check(image: &[u8]) -> Verdict
     ensures { λ r. ⌜ r ≡ numbers-of (verdict (now (image .entry))) ⌝ }
 {
     let reading = reader::read(image);
     let answer = reading.answer;
+    let outcome = outcome_of(answer);
     let Answer::Accepted {
         q: _,
         modulus: _,
         least,
     } = answer
     else {
-        return as_numbers(answer);
+        return Verdict {
+            number: outcome.number,
+            place: outcome.place,
+            least: NO_LEAST,
+        };
     };
     Verdict {
-        number: 0,
-        place: 0,
+        number: outcome.number,
+        place: outcome.place,
         least,
     }
 }
 
 // The plan of an image beside the plan check's numbers; all 0 after a refusal.
 #[no_mangle]
-pub extern "C" fn plan_read(image: &[u8]) -> PlanRead
+pub extern "C" fn tamsklor_plan_read(image: &[u8]) -> PlanRead
     ensures { λ r. ⌜ r ≡ numbers-of-reading (reading-of (now (image .entry))) ⌝ }
 {
     let reading = reader::read(image);
     let answer = reading.answer;
     let plan = reading.plan;
+    let numbers = outcome_of(answer);
     let Answer::Accepted {
         q: _,
         modulus: _,
         least,
     } = answer
     else {
-        return with_plan(as_numbers(answer), plan);
+        return PlanRead {
+            number: numbers.number,
+            place: numbers.place,
+            least: NO_LEAST,
+            plan,
+        };
     };
     PlanRead {
-        number: 0,
-        place: 0,
+        number: numbers.number,
+        place: numbers.place,
         least,
         plan,
     }
 }
 
-// Beginning a run: 0 and the fresh state; 25 where the plan is out of shape, with an all-zero state beside it.
-#[no_mangle]
-pub extern "C" fn run_begin(plan: Plan) -> Begun
+// Beginning a run of a plan by value: 0 and the fresh state; 25 where the plan is out of shape, with an all-zero state beside it.
+fn begin_by_value(plan: Plan) -> Begun
     ensures { λ r. ⌜ r ≡ numbers-of-begin (begin-run plan) ⌝ }
 {
     let began = calls::begin(plan);
@@ -205,9 +203,17 @@ pub extern "C" fn run_begin(plan: Plan) -> Begun
     }
 }
 
+// Beginning a run of the host's plan.
+#[no_mangle]
+pub extern "C" fn tamsklor_run_begin<'a>(plan: &'a Plan) -> Begun
+    ensures { λ r. ⌜ r ≡ numbers-of-begin (begin-run (now (plan .entry))) ⌝ }
+{
+    begin_by_value(*plan)
+}
+
 // One call on the host's one state, updated where it stands: open, look or fire by its code.
 #[no_mangle]
-pub extern "C" fn run_step<'a, 'b>(
+pub extern "C" fn tamsklor_run_step<'a, 'b>(
     plan: &'a Plan,
     state: &'b mut State,
     code: u32,
@@ -216,15 +222,34 @@ pub extern "C" fn run_step<'a, 'b>(
 ) -> CallAnswer
     ensures { λ r. ⌜ (r ≡ numbers-of-reply (step-call (now (plan .entry)) (now (state .entry)) code process edge .reply)) × (now (state .exit) ≡ step-call (now (plan .entry)) (now (state .entry)) code process edge .state) ⌝ }
 {
-    let r = run_stepped(*plan, *state, code, process, edge);
+    let r = tamsklor_run_stepped(*plan, *state, code, process, edge);
     *state = r.state;
     r.answer
 }
 
-// The token reading of an edge. The state is not changed.
-#[no_mangle]
-pub extern "C" fn run_tokens(plan: Plan, state: State, edge: u32) -> TokenAnswer
+// The token reading of an edge, plan and state by value.
+fn tokens_by_value(plan: Plan, state: State, edge: u32) -> TokenAnswer
     ensures { λ r. ⌜ r ≡ numbers-of-level (reading-call plan state edge) ⌝ }
 {
     as_token_answer(calls::token_reading(plan, state, edge))
+}
+
+// The token reading of an edge on the host's plan and state. Neither is changed.
+#[no_mangle]
+pub extern "C" fn tamsklor_run_tokens<'a, 'b>(
+    plan: &'a Plan,
+    state: &'b State,
+    edge: u32,
+) -> TokenAnswer
+    ensures { λ r. ⌜ r ≡ numbers-of-level (reading-call (now (plan .entry)) (now (state .entry)) edge) ⌝ }
+{
+    tokens_by_value(*plan, *state, edge)
+}
+
+// The version: 10,000 times the major number, 100 times the minor number and the patch number.
+#[no_mangle]
+pub extern "C" fn tamsklor_version() -> u32
+    ensures { λ r. ⌜ r ≡ version ⌝ }
+{
+    200
 }

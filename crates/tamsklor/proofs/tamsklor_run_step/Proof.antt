@@ -1,5 +1,5 @@
--- `tamsklor::run_step` meets its contract: a walk of its MIR, by hand. The plan is looked into and copied out, the state's borrow is opened and the state
--- copied out; both go to `run_stepped`, of which all that is known is that it meets its contract; the state that comes back is stored over the old one, the
+-- `tamsklor::tamsklor_run_step` meets its contract: a walk of its MIR, by hand. The plan is looked into and copied out, the state's borrow is opened and the state
+-- copied out; both go to `tamsklor_run_stepped`, of which all that is known is that it meets its contract; the state that comes back is stored over the old one, the
 -- borrow is closed at it, and the answer is returned.
 -- Assumes nothing.
 use mathlib.Core.Path.{refl, ap}
@@ -53,14 +53,14 @@ use Rattle.tamsklor.proofs.CallAnswer as N
 use Rattle.tamsklor.proofs.CallAnswer.Laws as N′
 use Rattle.tamsklor.proofs.Stepped as S
 use Rattle.tamsklor.proofs.Stepped.Laws as S′
-use Rattle.tamsklor.proofs.run_stepped as stepped
-use Rattle.tamsklor.proofs.run_stepped.Symbol as stepped-def
-use Rattle.tamsklor.proofs.run_stepped.Symbol.{name as #stepped}
-use Rattle.tamsklor.proofs.run_stepped.Met as stepped-thm
-use Rattle.tamsklor.proofs.run_step.Key.{name as #run-step}
-use Rattle.tamsklor.proofs.run_step as f
-use Rattle.tamsklor.proofs.run_step.Statement as stated
-use Rattle.tamsklor.proofs.run_step.Code as code
+use Rattle.tamsklor.proofs.tamsklor_run_stepped as stepped
+use Rattle.tamsklor.proofs.tamsklor_run_stepped.Symbol as stepped-def
+use Rattle.tamsklor.proofs.tamsklor_run_stepped.Symbol.{name as #stepped}
+use Rattle.tamsklor.proofs.tamsklor_run_stepped.Met as stepped-thm
+use Rattle.tamsklor.proofs.tamsklor_run_step.Key.{name as #run-step}
+use Rattle.tamsklor.proofs.tamsklor_run_step as f
+use Rattle.tamsklor.proofs.tamsklor_run_step.Statement as stated
+use Rattle.tamsklor.proofs.tamsklor_run_step.Code as code
 
 abbrev Arg : Type 0
 Arg = RefT Plan × (RefT State × (ℕ × (ℕ × (ℕ × Unit {0}))))
@@ -85,7 +85,7 @@ answer-is r vs is = LL.owed S.the-type S′.the-laws r vs is .0
 state-is : (r : Stepped) (vs : List Val) → Is S.the-row r vs → Is T.the-row (r .state) (vals (r .state))
 state-is r vs is = LL.owed S.the-type S′.the-laws r vs is .1 .0
 
--- what `run_stepped` promises of its result
+-- what `tamsklor_run_stepped` promises of its result
 abbrev Kept : Plan → State → ℕ → ℕ → ℕ → Stepped → Type 0
 Kept k h c p e r = StepPromise k h c p e (r .answer) (r .state)
 
@@ -186,10 +186,10 @@ step-meets : {M : Type 1} (𝓤 : URA M) (H : Heap 𝓤) (A : Atoms 𝓤) → Gi
 step-meets 𝓤 H A W at-mem run 𝓣 known = walk-meets 𝓤 H A f.ended stayed W (goes 𝓤 H A W at-mem run) (f.clauses 𝓤 H A at-mem run) (WpFn 𝓤 H (𝓣 .C) (𝓣 .Λ) code.function) (WpFn-mono 𝓤 H (W .laws) 𝓣 code.function)
     (step-walks 𝓤 H A W at-mem run (𝓣 .C) (𝓣 .Λ) (fmOf 𝓤 H (W .laws) 𝓣) known)
 
-pub run-step-spec : {M : Type 1} → stated.statement M
+pub tamsklor-run-step-spec : {M : Type 1} → stated.statement M
 unfolding code.routine tablesOf
-run-step-spec 𝓤 H 𝓜 𝓖 𝓡 =
+tamsklor-run-step-spec 𝓤 H 𝓜 𝓖 𝓡 =
     entered 𝓤 H (tripleOf 𝓤 H (𝓖 .A) f.signature (f.spec 𝓤 H (𝓖 .A) (𝓜 .mem) (𝓡 .run)))
     (tables 𝓤 H 𝓜 𝓡 code.env .C) (tables 𝓤 H 𝓜 𝓡 code.env .Λ) #run-step code.function (code.unfolded 𝓤 H 𝓜 𝓡)
     (step-meets 𝓤 H (𝓖 .A) (givenOf 𝓤 H 𝓜 𝓖) (𝓜 .mem) (𝓡 .run) (tablesOf 𝓤 H 𝓜 (tables 𝓤 H 𝓜 𝓡 code.env))
-    (cited 𝓤 H (Step 𝓤 H (𝓖 .A) (𝓜 .mem) (𝓡 .run)) 𝓜 𝓡 code.env #stepped stepped-def.routine code.calls-tamsklor·run-stepped (stepped-thm.met 𝓤 H 𝓜 𝓖 𝓡)))
+    (cited 𝓤 H (Step 𝓤 H (𝓖 .A) (𝓜 .mem) (𝓡 .run)) 𝓜 𝓡 code.env #stepped stepped-def.routine code.calls-tamsklor·tamsklor-run-stepped (stepped-thm.met 𝓤 H 𝓜 𝓖 𝓡)))
