@@ -19,7 +19,7 @@ use Rattle.reader.specs.Faults.{image-order}
 use Rattle.reader.specs.Layout.{Layout}
 use Rattle.reader.specs.Tests.{verdict, no-plan, reading-of}
 use Rattle.reader.specs.Theorems as reader
-use Rattle.reader.specs.Theorems.{IsAccepted}
+use Rattle.reader.specs.Tests.{IsAccepted}
 use Rattle.machine.specs.declared.State.{State}
 use Rattle.machine.specs.declared.Began.{Began}
 use Rattle.machine.specs.declared.Reply.{Reply}

@@ -14,7 +14,7 @@ use Rattle.judge.specs.Sound.{Sound}
 use Rattle.image.specs.Image.{plan-of}
 use Rattle.reader.specs.Tests.{verdict, reading-of}
 use Rattle.reader.specs.Theorems as reader
-use Rattle.reader.specs.Theorems.{IsAccepted}
+use Rattle.reader.specs.Tests.{IsAccepted}
 use Rattle.machine.specs.declared.State.{State}
 use Rattle.machine.specs.declared.Reply.{Reply}
 use Rattle.machine.specs.declared.Reply.the-variants.{Opened, Found, Wait, Fired, Refused}

@@ -5,7 +5,7 @@ use mathlib.Core.List.{List}
 use mathlib.Core.Logic.{_↔_, _≢_, inl, inr}
 use Prim.Native.Nat.{ℕ, _≤_}
 use native.Mathlib.Omega.{arith}
-use Rattle.plan.specs.Chain.{FirstFault}
+use Rattle.plan.specs.Order.{FirstFault}
 use Rattle.judge.specs.declared.Answer.the-variants.{Refused}
 use Rattle.judge.specs.Conditions.{LeastModulus}
 use Rattle.judge.specs.Sound.{Upheld}
@@ -14,7 +14,7 @@ use Rattle.reader.specs.Faults.{image-order}
 use Rattle.reader.specs.Layout.{Layout}
 use Rattle.reader.specs.Tests.{verdict}
 use Rattle.reader.specs.Theorems as reader
-use Rattle.reader.specs.Theorems.{IsAccepted}
+use Rattle.reader.specs.Tests.{IsAccepted}
 use Rattle.tamsklor.specs.declared.Verdict.{Verdict}
 use Rattle.tamsklor.specs.Numbers.{numbers-of}
 use Rattle.demands_c.specs.NumbersApart.{accepted-number, refused-number}

@@ -10,7 +10,7 @@ use Rattle.loops.specs.Choice.{at}
 use Rattle.net.specs.Graph.{Legal, Fireable, Emptiest, Linked, firings}
 use Rattle.plan.specs.declared.Plan.{Plan}
 use Rattle.plan.specs.Value.{graph-of}
-use Rattle.plan.specs.Chain.{FirstFault}
+use Rattle.plan.specs.Order.{FirstFault}
 use Rattle.judge.specs.declared.Answer.the-variants.{Accepted}
 use Rattle.judge.specs.Conditions.{LeastModulus}
 use Rattle.judge.specs.Sound.{Upheld, Sound}
@@ -18,7 +18,7 @@ use Rattle.image.specs.Image.{plan-of}
 use Rattle.reader.specs.Faults.{image-order}
 use Rattle.reader.specs.Layout.{Layout}
 use Rattle.reader.specs.Tests.{verdict, no-plan, reading-of}
-use Rattle.reader.specs.Theorems.{IsAccepted}
+use Rattle.reader.specs.Tests.{IsAccepted}
 use Rattle.machine.specs.declared.State.{State}
 use Rattle.machine.specs.declared.Began.{Began}
 use Rattle.machine.specs.declared.Reply.{Reply}

@@ -15,7 +15,8 @@ use Rattle.judge.specs.declared.Answer.the-variants.{Accepted, Refused}
 use Rattle.reader.specs.declared.Reading.{Reading}
 use Rattle.image.specs.Image.{four-bytes}
 use Rattle.reader.specs.Tests.{reading-of}
-use Rattle.reader.specs.Theorems.{IsAccepted, accepted-sound, all-of-the-plan, answer-is}
+use Rattle.reader.specs.Theorems.{accepted-sound, all-of-the-plan, answer-is}
+use Rattle.reader.specs.Tests.{IsAccepted}
 use Rattle.machine.specs.States.{fresh}
 use Rattle.transcript.specs.declared.Printed.{Printed}
 use Rattle.transcript.specs.declared.Printed.the-variants.{Whole, TooShort}
