@@ -2,6 +2,7 @@
 use borrow.Author.Needs.{needs}
 use mathlib.Core.Path.{_≡_, refl}
 use Rattle.loops.specs.First.{first}
+use Rattle.plan.specs.Seating.{order-once}
 use Rattle.seats.specs.Crossing.{ends-ok}
 use Rattle.judge.specs.Tests.{bad-counter}
 use Rattle.judge.specs.Reading.{crossing-known, lowest-10}
@@ -49,7 +50,7 @@ from-10-spec =
     (λ c. search needs)
     (λ c. search needs)
     (λ c. search needs)
-    (λ c κs. search needs)
+    (λ c κs. search (needs, order-once))
     (λ c κs. search needs)
     (λ c κs. search needs)
     returns
