@@ -54,20 +54,20 @@ next-other order i v d = go (any f i) refl
         any-all f (i + 1)
         (λ k h. ⊎-elim (λ q. ap f q ∙ ne-eqb (at order i) v d) (λ l. any-none f i k e l) (eq-or-lt-of-le (let z : k ≤ i = omega arith in z)))
 
-pub seeing-more : {order : List ℕ} {nodes i v : ℕ} {x : List ℕ} → Seeing order nodes i x → i < nodes → nodes ≤ 64 → v ≡ at order i → v < nodes
-    → (at x v ≡ 1 → ⊥) → Seeing order nodes (i + 1) (set x v 1)
+pub seeing-more : {order : List ℕ} {nodes i v r : ℕ} {x : List ℕ} → Seeing order nodes i x → i < nodes → nodes ≤ 64 → v ≡ at order i → v < nodes
+    → (at x v ≡ 1 → ⊥) → r ≡ 1 → Seeing order nodes (i + 1) (set x v r)
 unfolding bad-order either same-entry seen-in one-if
-seeing-more {order} {nodes} {i} {v} {x} inv h few e l new =
+seeing-more {order} {nodes} {i} {v} {r} {x} inv h few e l new one =
     record {
       so-far = first-miss (inv .so-far) h refl (if-false (leb nodes (at order i)) true _ (lt-leb nodes (at order i) (omega arith)) ∙ fresh);
-      long = length-set x v 1 ∙ inv .long;
+      long = length-set x v r ∙ inv .long;
       row = λ w.
           elim (ℕ-discrete v w) [
             | yes q ↦
-                ap (at (set x v 1)) (sym q) ∙ getD-set-same x v 1 0 (omega (arith, inv .long))
+                ap (at (set x v r)) (sym q) ∙ getD-set-same x v r 0 (omega (arith, inv .long)) ∙ one
                 ∙ sym (if-true (seen-in order (i + 1) w) 1 0 (next-same order i w (sym e ∙ q)))
             | no q ↦
-                getD-set-other x v w 1 0 (λ z. q (sym z)) ∙ inv .row w ∙ ap (λ b. if b 1 0) (sym (next-other order i w (λ z. q (e ∙ z))))
+                getD-set-other x v w r 0 (λ z. q (sym z)) ∙ inv .row w ∙ ap (λ b. if b 1 0) (sym (next-other order i w (λ z. q (e ∙ z))))
           ];
     }
   where
@@ -97,5 +97,3 @@ seeing-seen {order} {nodes} {i} {v} {x} inv h e l old =
 
 pub seeing-over : {order : List ℕ} {nodes i : ℕ} {x : List ℕ} → Seeing order nodes i x → nodes ≤ i → i ≡ first (bad-order order nodes) nodes
 seeing-over inv h = first-over (inv .so-far) h
-
-pub ruleset seeings = (seeing-begin, seeing-more, seeing-high, seeing-seen, seeing-over)

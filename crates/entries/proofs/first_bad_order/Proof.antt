@@ -1,7 +1,8 @@
 -- `entries::first_bad_order` meets its contract. Assumes nothing.
 use borrow.Author.Needs.{needs}
 use Prim.Native.Nat.{_-_}
-use Rattle.entries.specs.Seen.{Seeing, seeings}
+use native.Mathlib.Omega.{arith}
+use Rattle.entries.specs.Seen.{Seeing, seeing-begin, seeing-more, seeing-high, seeing-seen, seeing-over}
 use Rattle.entries.proofs.first_bad_order.Statement.{statement}
 use Rattle.entries.proofs.first_bad_order.Tie as tie
 
@@ -12,16 +13,23 @@ abbrev μ-loop : tie.MeasureT-loop
 μ-loop order nodes seen₀ i₀ seen i = nodes - i
 
 returns : tie.Need-returns Inv-loop μ-loop
-returns c = search (needs, seeings)
+returns c =
+    let read = c .before in
+    let turn = read .before .before in
+    seeing-high (turn .before .loop .inv) (turn .loop-test .taken) (read .wide .ensures) (omega arith)
 
 returns-2 : tie.Need-returns-2 Inv-loop μ-loop
-returns-2 c = search (needs, seeings)
-
-returns-3 : tie.Need-returns-3 Inv-loop μ-loop
-returns-3 c = search (needs, seeings)
+returns-2 c =
+    let read = c .before .before in
+    let turn = read .before .before in
+    seeing-seen (turn .before .loop .inv) (turn .loop-test .taken) (read .wide .ensures) (omega arith) (omega (arith, c .if2 .taken))
 
 loop-again : tie.Need-loop-again Inv-loop μ-loop
-loop-again c = search (needs, seeings)
+loop-again c =
+    let read = c .before .before in
+    let turn = read .before .before in
+    seeing-more (turn .before .loop .inv) (turn .loop-test .taken) (turn .before .before .pre) (omega (arith, read .wide .ensures)) (omega arith)
+    (λ old. c .if2 .left (omega arith)) (omega arith)
 
 pub first-bad-order-spec : {M : Type 1} → statement M
 first-bad-order-spec =
@@ -29,7 +37,7 @@ first-bad-order-spec =
     (tie.spec
     Inv-loop
     μ-loop
-    (λ c. search (needs, seeings))
+    (λ c. search (needs, seeing-begin))
     (λ c. search needs)
     (λ c. search needs)
     (λ c κs. search needs)
@@ -40,4 +48,4 @@ first-bad-order-spec =
     (λ c. search needs)
     (λ c. search needs)
     loop-again
-    returns-3)
+    (λ c. search (needs, seeing-over)))

@@ -1,6 +1,5 @@
 -- `seats::homes` meets its contract. Assumes nothing.
 use borrow.Author.Needs.{needs}
-use mathlib.Core.Path.{refl}
 use Prim.Native.Nat.{_+_, _-_, _<_, _≤_}
 use native.Mathlib.Omega.{arith}
 use Rattle.loops.specs.Choice.{at}
@@ -36,7 +35,7 @@ loop-less c = omega (arith, goes-on (c .before .before) .0)
 loop-again : tie.Need-loop-again Inv-loop μ-loop
 loop-again c =
     let test = c .before .before .before in
-    housed-on (test .before .before .loop .inv) (test .ends-by .ensures) (c .before .before .if1 .taken) (c .wide .ensures)
+    housed-on (test .before .before .loop .inv) (test .ends-by .ensures) (c .before .before .if1 .taken) (omega (arith, c .wide .ensures))
 
 -- a turn that enters a process: the node at position i is below 64
 small : (c : tie.After-wide2 Inv-loop μ-loop) → c .wide2 .result < 64
@@ -49,7 +48,7 @@ loop-again-2 c =
     let test = c .before .before .before in
     let turn = test .before in
     housed-more (turn .before .loop .inv) (turn .loop-test .taken) (turn .before .before .pre .0) (turn .before .before .pre .2) (test .ends-by .ensures)
-    (c .before .before .if1 .left) (c .wide2 .ensures) refl
+    (c .before .before .if1 .left) (omega (arith, c .wide2 .ensures)) (omega arith)
 
 pub homes-spec : {M : Type 1} → statement M
 homes-spec =
