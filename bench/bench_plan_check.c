@@ -28,7 +28,7 @@ enum {
 typedef TamsklorVerdict (*checker)(const uint8_t *, size_t);
 
 /* How the cost grows by nodes at three edges a node, and by edges at 64 nodes
-   (64 edges: process edges only; slow: as many rounds as there can be). */
+   (64 edges: process edges only; slow: as many sweeps as there can be). */
 static const struct shape shapes[] = {
     {"n4", 4, 2, 12, 1, 0, 0},     {"n8", 8, 2, 24, 1, 0, 0},
     {"n16", 16, 4, 48, 1, 0, 0},   {"n32", 32, 4, 96, 1, 0, 0},

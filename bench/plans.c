@@ -5,7 +5,7 @@
 #include "draw.h"
 
 /* One process that fires from the highest node down: each round of a row
-   carries a route one node further, so there are as many rounds as nodes. */
+   carries a route one node further, so there are as many sweeps as nodes. */
 static void draw_slow(const struct shape *shape, struct random *random,
                       struct sketch *sketch)
 {

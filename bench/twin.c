@@ -204,10 +204,10 @@ static int test_12(TamsklorPlan *plan)
     return -1;
 }
 
-/* A round: every edge in turn lowers its target's entry; whether one did.
+/* A sweep: every edge in turn lowers its target's entry; whether one did.
    Without a branch: with one it takes a quarter fewer instructions on drawn
    plans, and 1.6 times as long. */
-static int relax_round(const TamsklorPlan *plan, uint32_t *row)
+static int relax_sweep(const TamsklorPlan *plan, uint32_t *row)
 {
     uint32_t edges = plan->edges, changed = 0;
     for (uint32_t i = 0; i < edges; i++) {
@@ -227,7 +227,7 @@ static void emptiest_row(const TamsklorPlan *plan, uint32_t from,
     for (uint32_t i = 0; i < TAMSKLOR_NODES; i++)
         row[i] = NO_ROUTE;
     row[from] = 0;
-    while (relax_round(plan, row))
+    while (relax_sweep(plan, row))
         continue;
 }
 

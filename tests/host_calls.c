@@ -425,7 +425,7 @@ static uint32_t some_number(struct random *random, uint32_t near)
 static void try_progress(struct random *random)
 {
     uint32_t p = random_below(random, SECOND_PROCESSES);
-    if (second_plan.processes > 0 && second_plan.processes < p)
+    if (second_plan.processes > 0 && second_plan.processes <= p)
         p = random_below(random, second_plan.processes);
     for (uint32_t e = 0; e < SECOND_EDGES; e++)
         if (second_state.mark[p][e]) {

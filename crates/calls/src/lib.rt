@@ -70,7 +70,7 @@ pub fn begin(plan: Plan) -> Began
     Began { number: 25, state }
 }
 
-// Open p: 25 plan or state out of shape, then as above.
+// Open p: 25 plan or state out of shape, then the answer of `machine::open_in_shape`.
 pub fn open(plan: Plan, state: State, process: u32) -> Turned
     ensures { λ r. ⌜ r ≡ open-call plan state process ⌝ }
 {
@@ -80,7 +80,7 @@ pub fn open(plan: Plan, state: State, process: u32) -> Turned
     machine::refusal(25, state)
 }
 
-// Look p, e: 25 plan or state out of shape, then as above.
+// Look p, e: 25 plan or state out of shape, then the answer of `machine::look_in_shape`.
 pub fn look(plan: Plan, state: State, process: u32, edge: u32) -> Turned
     ensures { λ r. ⌜ r ≡ look-call plan state process edge ⌝ }
 {
@@ -90,7 +90,7 @@ pub fn look(plan: Plan, state: State, process: u32, edge: u32) -> Turned
     machine::refusal(25, state)
 }
 
-// Fire p: 25 plan or state out of shape, then as above.
+// Fire p: 25 plan or state out of shape, then the answer of `machine::fire_in_shape`.
 pub fn fire(plan: Plan, state: State, process: u32) -> Turned
     ensures { λ r. ⌜ r ≡ fire-call plan state process ⌝ }
 {

@@ -2,7 +2,6 @@ pub mod Modular
 pub mod Process
 pub mod Remainders
 pub mod Facts
-pub mod Firing
 pub mod Rounding
 pub mod Exact
 pub mod Look

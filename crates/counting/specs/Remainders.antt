@@ -1,15 +1,11 @@
 -- What rounding up and minus modulo N are: laws of `Modular`.
 -- Assumes nothing.
-use mathlib.Core.Path.{_≡_, refl, sym, ap, _∙_}
+use mathlib.Core.Path.{_≡_, sym, ap, _∙_}
 use mathlib.Core.Logic.{_↔_}
 use Prim.Native.Nat.{ℕ, suc, _+_, _-_, _*_, _/_, _%_, _≤_, _<_}
 use native.Mathlib.Omega.{arith}
-use native.Mathlib.Nat.{mod-lt, div-add-mod, add-mul-mod-self-left, mod-add-mod, add-mul-div-left, div-eq-of-lt-le, lt-mul-div-succ, div-lt-iff-lt-mul, mul-le-mul-left, mul-lt-mul-of-pos-left, mod-eq-of-lt}
-use Rattle.counting.specs.Modular.{Divides, rounded-up, minus-modulo}
-
--- where nothing is left over, q divides n
-pub divides-from-remainder : (q n : ℕ) → n % q ≡ 0 → Divides q n
-divides-from-remainder q n e = (n / q, omega (arith, div-add-mod n q))
+use native.Mathlib.Nat.{mod-lt, div-add-mod, add-mul-mod-self-left, mod-add-mod, add-mul-div-left, div-eq-of-lt-le, mul-lt-mul-of-pos-left, mod-eq-of-lt}
+use Rattle.counting.specs.Modular.{rounded-up, minus-modulo}
 
 -- equal remainders stay equal when the same is added
 pub plus-congruent : (n a b c : ℕ) → a % n ≡ b % n → (a + c) % n ≡ (b + c) % n
@@ -28,11 +24,6 @@ multiple-modulo q a m h z =
     ∙ add-mul-mod-self-left (q * (a % m)) (q * m) (a / m) ∙ mod-eq-of-lt (mul-lt-mul-of-pos-left (mod-lt a z) h)
 
 module _ (n a b : ℕ) (h : 0 < n) where
-  -- a less b, modulo N, is below N
-  pub minus-below : minus-modulo n a b < n
-  unfolding minus-modulo
-  minus-below = mod-lt (a + (n - b % n)) h
-
   -- it is the remainder of c exactly where c and b together have a's remainder
   pub minus-is : (c : ℕ) → (minus-modulo n a b ≡ c % n) ↔ (a % n ≡ (c + b) % n)
   unfolding minus-modulo
@@ -43,26 +34,7 @@ module _ (n a b : ℕ) (h : 0 < n) where
     λ e. plus-congruent n a (c + b) (n - b % n) e ∙ plus-then-minus n c b h,
   )
 
-  -- where b is not above a it is a - b, modulo N
-  pub minus-ordinary : b ≤ a → minus-modulo n a b ≡ (a - b) % n
-  minus-ordinary l = minus-is (a - b) .1 (ap (_% n) (omega arith))
-
 module _ (q i : ℕ) where
-  -- what a number is rounded up to is a multiple of q,
-  pub rounded-multiple : (k : ℕ) × (rounded-up q i ≡ q * k)
-  unfolding rounded-up
-  rounded-multiple = ((i + (q - 1)) / q, refl)
-
-  -- it is not below the number
-  pub rounded-not-below : 0 < q → i ≤ rounded-up q i
-  unfolding rounded-up
-  rounded-not-below h = omega (arith, lt-mul-div-succ (i + (q - 1)) h)
-
-  -- and no multiple that is not below the number is smaller
-  pub rounded-least : (k : ℕ) → 0 < q → i ≤ q * k → rounded-up q i ≤ q * k
-  unfolding rounded-up
-  rounded-least k h l = mul-le-mul-left q (let p = div-lt-iff-lt-mul {k = q} {x = i + (q - 1)} {y = suc k} h .1 (omega arith) in omega arith)
-
   -- a multiple of q from i up to below i + q is the one that i is rounded up to
   pub rounded-is : (k : ℕ) → i ≤ q * k → q * k < i + q → rounded-up q i ≡ q * k
   unfolding rounded-up

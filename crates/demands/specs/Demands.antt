@@ -8,6 +8,7 @@ use Prim.Native.Nat.{ℕ, _+_, _*_, _%_, _≤_, _<_}
 use Rattle.loops.specs.Choice.{at}
 use Rattle.loops.specs.Sum.{sum}
 use Rattle.net.specs.Graph.{Legal, Fireable, Emptiest, Linked, firings}
+use Rattle.net.specs.Emptiest as net
 use Rattle.plan.specs.declared.Plan.{Plan}
 use Rattle.plan.specs.Value.{graph-of, InProcess, share}
 use Rattle.judge.specs.declared.Answer.the-variants.{Refused}
@@ -131,6 +132,10 @@ module _ (s : List ℕ) (a : IsAccepted s) where
   -- the emptiest route is there wherever a route is, and is one number
   pub emptiest-there : (m n : ℕ) → m < plan .nodes → Linked (graph-of plan) m n → (d : ℕ) × Emptiest (graph-of plan) (graph-of plan .tokens) m n d
   emptiest-there = follow.emptiest-there plan (reader.accepted-sound s a)
+
+  -- 01: "From a node to itself it is 0"
+  pub emptiest-self : (n : ℕ) → n < plan .nodes → Emptiest (graph-of plan) (graph-of plan .tokens) n n 0
+  emptiest-self n h = net.emptiest-self (graph-of plan) (graph-of plan .tokens) n
 
   -- "and some sequence reaches that limit": of calls whose processes and edges are the plan's
   pub lead-reached : (m n d : ℕ) → n < plan .nodes → Emptiest (graph-of plan) (graph-of plan .tokens) m n d

@@ -3,6 +3,7 @@
 use mathlib.Core.Path.{_≡_, refl, sym, ap, _∙_}
 use mathlib.Core.Bool.{true}
 use lib.Dec.{ltb}
+use lib.ListN.{length}
 use native.Mathlib.Omega.{arith}
 use borrow.Author.Tests.{ltb-true, ne-eqb}
 use mathlib.Core.Logic.{inl, inr}
@@ -52,6 +53,11 @@ answers-in-shape pl st (c ∷ cs) =
     let t = step-in-shape pl st (c .code) (c .process) (c .edge) in
     t .reply ∷ answers-in-shape pl (t .state) cs
 
+-- and the state after them
+unfoldable end-in-shape : Plan → State → List Call → State
+end-in-shape pl st [] = st
+end-in-shape pl st (c ∷ cs) = end-in-shape pl (step-in-shape pl st (c .code) (c .process) (c .edge) .state) cs
+
 -- a call on a plan and a state in shape
 in-shape : (pl : Plan) (st : State) (code p e : ℕ) → both-fit pl st ≡ true → step-call pl st code p e ≡ step-in-shape pl st code p e
 unfolding step-call step-in-shape
@@ -65,14 +71,17 @@ in-shape pl st code p e h =
     ]
 
 -- the run of a plan in shape needs no test
-run-in-shape : (pl : Plan) (shape : InShape pl) (cs : List Call) (st : State) → Kept pl st → replies pl st cs ≡ answers-in-shape pl st cs
-unfolding replies turn answers-in-shape
-run-in-shape pl shape [] st k = refl
+run-in-shape : (pl : Plan) (shape : InShape pl) (cs : List Call) (st : State) → Kept pl st
+    → (replies pl st cs ≡ answers-in-shape pl st cs) × (last-state pl st cs ≡ end-in-shape pl st cs)
+unfolding replies last-state turn answers-in-shape end-in-shape
+run-in-shape pl shape [] st k = (refl, refl)
 run-in-shape pl shape (c ∷ cs) st k =
     let e = in-shape pl st (c .code) (c .process) (c .edge) (kept-fits pl shape st k) in
     let t = step-in-shape pl st (c .code) (c .process) (c .edge) in
-    ap (λ u. u .reply ∷ replies pl (u .state) cs) e
-    ∙ ap (t .reply ∷_) (run-in-shape pl shape cs (t .state) (step-in-shape-kept pl shape st k (c .code) (c .process) (c .edge)))
+    let r = run-in-shape pl shape cs (t .state) (step-in-shape-kept pl shape st k (c .code) (c .process) (c .edge)) in (
+      ap (λ u. u .reply ∷ replies pl (u .state) cs) e ∙ ap (t .reply ∷_) (r .0),
+      ap (λ u. last-state pl (u .state) cs) e ∙ r .1,
+    )
 
 -- the answer at a place of the table
 answer-at : List Answer → ℕ → Answer
@@ -93,24 +102,42 @@ all-ones-run : answers-in-shape (plan-of P-all-ones) fresh (open-call 1 ∷ look
 unfolding answers-in-shape if both either one-if first firstOf any anyOf sum stored entries padded rounded-up minus-modulo finds base node-at share counter-sum edge-sum stands-at place-of ends-past process-at home-of home seat synchronises two-bytes four-bytes entry order-start node-start edge-start counter-table increment-table plan-of as-two as-four all-as-two image-of like-P edges-of-P P P-all-ones spot mark next-node fresh earlier b-of edge-found raised to-see marks-left opened-state do-open with-marks found-state do-look next-position fired-state do-fire refused open-in-shape marked look-in-shape fire-in-shape step-in-shape
 all-ones-run = refl
 
+-- "b(1) is 7 and rounds to 8"
+all-ones-b : (b-of (plan-of P-all-ones) (end-in-shape (plan-of P-all-ones) fresh (open-call 1 ∷ look-call 1 2 ∷ [])) 1 ≡ 7)
+    × (rounded-up (plan-of P-all-ones .q) 7 ≡ 8)
+unfolding end-in-shape if both either one-if first firstOf any anyOf sum stored entries padded rounded-up minus-modulo finds base node-at share counter-sum edge-sum stands-at place-of ends-past process-at home-of home seat synchronises two-bytes four-bytes entry order-start node-start edge-start counter-table increment-table plan-of as-two as-four all-as-two image-of like-P edges-of-P P P-all-ones spot mark next-node fresh earlier b-of edge-found raised to-see marks-left opened-state do-open with-marks found-state do-look next-position fired-state do-fire refused open-in-shape marked look-in-shape fire-in-shape step-in-shape
+all-ones-b = (refl, refl)
+
 P-run : answers-in-shape (plan-of P) fresh
     (open-call 0 ∷ look-call 0 4 ∷ fire-call 0 ∷ open-call 0 ∷ fire-call 0 ∷ open-call 1 ∷ look-call 1 2 ∷ look-call 1 2 ∷ fire-call 1 ∷ [])
     ≡ reply.Opened 1 ∷ reply.Found 0 ∷ reply.Fired 0 ∷ reply.Opened 0 ∷ reply.Fired 1 ∷ reply.Opened 1 ∷ reply.Found 0 ∷ reply.Refused 23 ∷ reply.Fired 2 ∷ []
 unfolding answers-in-shape if both either one-if first firstOf any anyOf sum stored entries padded rounded-up minus-modulo finds base node-at share counter-sum edge-sum stands-at place-of ends-past process-at home-of home seat synchronises two-bytes four-bytes entry order-start node-start edge-start counter-table increment-table plan-of as-two as-four all-as-two image-of like-P edges-of-P P P-all-ones spot mark next-node fresh earlier b-of edge-found raised to-see marks-left opened-state do-open with-marks found-state do-look next-position fired-state do-fire refused open-in-shape marked look-in-shape fire-in-shape step-in-shape
 P-run = refl
 
-run-from : (s : List ℕ) (q n m : ℕ) → verdict s ≡ Accepted q n m → (cs : List Call) → replies (plan-of s) fresh cs ≡ answers-in-shape (plan-of s) fresh cs
+run-from : (s : List ℕ) (q n m : ℕ) → verdict s ≡ Accepted q n m → (cs : List Call)
+    → (replies (plan-of s) fresh cs ≡ answers-in-shape (plan-of s) fresh cs) × (last-state (plan-of s) fresh cs ≡ end-in-shape (plan-of s) fresh cs)
 unfolding last-state
 run-from s q n m e cs = let shape = accepted-sound s (q, n, m, e) .shape in run-in-shape (plan-of s) shape cs fresh (reached-kept (plan-of s) shape [])
 
--- the starred lines
+-- the lengths of two of the images
+lengths : (length P ≡ 100) × (length (one-node 1) ≡ 50)
+unfolding as-two as-four all-as-two image-of like-P edges-of-P P one-node
+lengths = (refl, refl)
+
+-- the starred lines: every image's answer; "100 bytes" and "(50 bytes)"; the run of the last case, b(1) after it and what it rounds to
 pub starred :
     (map verdict (
     P ∷ P-with-N-3 ∷ P-without-3-0 ∷ P-with-1-2-repeated ∷ one-node 1 ∷ one-node 0 ∷ P-by-twos 7 ∷ P-by-twos 6 ∷ P-with-0-0 ∷ ring 3 ∷ ring 4 ∷ P-all-ones ∷ []
     ) ≡ Accepted 1 4 4 ∷ Refused 16 2 ∷ Refused 14 2 ∷ Refused 8 3 ∷ Accepted 1 1 1 ∷ Refused 12 0 ∷ Refused 15 0 ∷ Refused 16 2 ∷ Refused 13 0 ∷ Refused 16 1
     ∷ Accepted 1 4 4 ∷ Accepted 2 8 8 ∷ [])
+    × (length P ≡ 100)
+    × (length (one-node 1) ≡ 50)
     × (replies (plan-of P-all-ones) fresh (open-call 1 ∷ look-call 1 2 ∷ []) ≡ reply.Opened 1 ∷ reply.Wait 1 ∷ [])
-starred = (starred-plans, run-from P-all-ones 2 8 8 all-ones-accepted (open-call 1 ∷ look-call 1 2 ∷ []) ∙ all-ones-run)
+    × (b-of (plan-of P-all-ones) (last-state (plan-of P-all-ones) fresh (open-call 1 ∷ look-call 1 2 ∷ [])) 1 ≡ 7)
+    × (rounded-up (plan-of P-all-ones .q) 7 ≡ 8)
+starred =
+    let run = run-from P-all-ones 2 8 8 all-ones-accepted (open-call 1 ∷ look-call 1 2 ∷ []) in
+    (starred-plans, lengths .0, lengths .1, run .0 ∙ all-ones-run, ap (λ st. b-of (plan-of P-all-ones) st 1) (run .1) ∙ all-ones-b .0, all-ones-b .1)
 
 -- plan P's run, call by call
 pub run-of-P : replies (plan-of P) fresh
@@ -118,4 +145,4 @@ pub run-of-P : replies (plan-of P) fresh
     ≡ reply.Opened 1 ∷ reply.Found 0 ∷ reply.Fired 0 ∷ reply.Opened 0 ∷ reply.Fired 1 ∷ reply.Opened 1 ∷ reply.Found 0 ∷ reply.Refused 23 ∷ reply.Fired 2 ∷ []
 run-of-P =
     run-from P 1 4 4 P-accepted
-    (open-call 0 ∷ look-call 0 4 ∷ fire-call 0 ∷ open-call 0 ∷ fire-call 0 ∷ open-call 1 ∷ look-call 1 2 ∷ look-call 1 2 ∷ fire-call 1 ∷ []) ∙ P-run
+    (open-call 0 ∷ look-call 0 4 ∷ fire-call 0 ∷ open-call 0 ∷ fire-call 0 ∷ open-call 1 ∷ look-call 1 2 ∷ look-call 1 2 ∷ fire-call 1 ∷ []) .0 ∙ P-run

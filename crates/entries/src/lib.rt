@@ -3,10 +3,9 @@ ghost use mathlib.Core.Path.{_≡_};
 ghost use mathlib.Core.List.{[]};
 ghost use Prim.Native.Nat.{_<_, _≤_};
 ghost use Rattle.loops.specs.First.{first};
-ghost use Rattle.loops.specs.Any.{any};
 ghost use Rattle.plan.specs.Value.{plan-with};
 ghost use Rattle.entries.specs.Answer.{order-answer, tables-answer};
-ghost use Rattle.plan.specs.Tests.{outside, bad-counts, zero-length, same-entry, bad-order, bad-node, not-above, not-rising, bad-edge};
+ghost use Rattle.plan.specs.Tests.{outside, bad-counts, zero-length, bad-order, bad-node, not-above, not-rising, bad-edge};
 
 // What tests 5 to 8 answer: they passed, or the refusal's number and place.
 pub enum Checked {
@@ -63,44 +62,23 @@ pub fn first_zero_length(lengths: &[u16; 64], processes: usize) -> usize
     k
 }
 
-// A node seen before in the firing order.
-fn seen_before(order: &[u16; 64], i: usize) -> bool
-    requires { ⌜ i < 64 ⌝ }
-    ensures { λ r. ⌜ r ≡ any (same-entry (now (order .entry)) i) i ⌝ }
-{
-    let x = order[i];
-    let mut j: usize = 0;
-    while j < i {
-        if order[j] == x {
-            return true;
-        }
-        j += 1;
-    }
-    false
-}
-
-// An order entry not a node, or a node seen before.
-fn bad_order_at(order: &[u16; 64], nodes: usize, i: usize) -> bool
-    requires { ⌜ i < 64 ⌝ }
-    ensures { λ r. ⌜ r ≡ bad-order (now (order .entry)) nodes i ⌝ }
-{
-    if nodes <= plan::wide(order[i]) {
-        true
-    } else {
-        seen_before(order, i)
-    }
-}
-
-// Number 6: the lowest order position that has an entry not a node or a node seen before, or the number of nodes.
+// Number 6: the lowest order position that has an entry not a node or a node seen before, or the number of nodes. One pass, with a
+// row in which each node seen has a 1.
 pub fn first_bad_order(order: &[u16; 64], nodes: usize) -> usize
     requires { ⌜ nodes ≤ 64 ⌝ }
     ensures { λ r. ⌜ r ≡ first (bad-order (now (order .entry)) nodes) nodes ⌝ }
 {
+    let mut seen: [u8; 64] = [0; 64];
     let mut i: usize = 0;
     while i < nodes {
-        if bad_order_at(order, nodes, i) {
+        let v = plan::wide(order[i]);
+        if nodes <= v {
             return i;
         }
+        if seen[v] == 1 {
+            return i;
+        }
+        seen[v] = 1;
         i += 1;
     }
     i

@@ -2,12 +2,11 @@
 -- Assumes nothing.
 use mathlib.Core.Path.{_≡_, refl, sym, ap, ap₂, _∙_, subst}
 use mathlib.Core.List.{List, [], _∷_, _++_}
-use Prim.Native.Nat.{ℕ, _≤_, _<_}
+use Prim.Native.Nat.{ℕ, _<_}
 use native.Mathlib.Omega.{arith}
-use native.Mathlib.Decide.{decLt}
 use lib.Dec.{eqb}
 use Rattle.loops.specs.Choice.{at}
-use Rattle.net.specs.Graph.{firings, Fireable}
+use Rattle.net.specs.Graph.{Fireable}
 use Rattle.net.specs.Live.{some-fireable}
 use Rattle.net.specs.Seating.{seats-of}
 use Rattle.net.specs.ProcessEdges.{next-only}
@@ -112,14 +111,6 @@ module _ (pl : Plan) (sound : Sound pl) (st : State) (s : List ℕ) (f : Follows
   yet-to-see p h =
       let kept = run-kept pl (sound .shape) (opening st p) st (f .kept) in
       listed (mark (last-state pl st (opening st p)) p) 512 (λ e k. kept .parts .marks p (omega (arith, tables pl sound .counts)) e k .flag)
-
-  -- no edge stands in it twice
-  pub no-edge-twice : (p : ℕ) → p < pl .processes → (es : List ℕ) → YetToSee pl st p es → (e : ℕ) → firings e es ≤ 1
-  no-edge-twice p h es l e =
-      elim (decLt e 512) [
-        | yes k ↦ omega (arith, l .each e k, run-kept pl (sound .shape) (opening st p) st (f .kept) .parts .marks p (omega (arith, tables pl sound .counts)) e k .flag)
-        | no k ↦ omega (arith, l .past e (omega arith))
-      ]
 
   -- a node that may fire is the next one of its process
   pub fireable-next : (v : ℕ) → v < graph-of pl .nodes → Fireable (graph-of pl) (tokens-after pl s) v

@@ -2,7 +2,7 @@
 -- Assumes nothing.
 use mathlib.Core.Path.{_≡_, sym, _∙_, subst}
 use mathlib.Core.List.{List}
-use mathlib.Core.Logic.{_↔_, _≢_}
+use mathlib.Core.Logic.{_↔_}
 use Prim.Native.Nat.{ℕ, _<_}
 use native.Mathlib.Omega.{arith}
 use Rattle.loops.specs.Choice.{at}
@@ -48,11 +48,6 @@ module _ (pl : Plan) (sound : Sound pl) (st : State) (s : List ℕ) (f : Follows
         node-is = m .3;
         fireable = subst (Fireable (graph-of pl) (tokens-after pl s)) (sym (m .3)) (fire-fireable pl sound st s f (c .process) (m .0) (λ y. omega (arith, m .1)) (m .2));
       }
-
-  -- the reply of one where the process is open with no mark left
-  pub fire-answers : (c : Call) → c .code ≡ 2 → c .process < pl .processes → at (st .opened) (c .process) ≢ 0 → marks-left st (c .process) ≡ 0
-      → turn pl st c .reply ≡ Fired (next-node pl st (c .process))
-  fire-answers c z = exactly.fire-answers pl (sound .shape) st (in-shape .0) (in-shape .1) c z
 
   -- so it fires exactly there
   pub fire-exactly : (c : Call) → c .code ≡ 2

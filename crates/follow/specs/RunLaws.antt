@@ -21,12 +21,6 @@ module _ (pl : Plan) where
   replies-append [] ds st = refl
   replies-append (c ∷ cs) ds st = ap (turn pl st c .reply ∷_) (replies-append cs ds (turn pl st c .state))
 
-  -- the state after them
-  pub last-append : (cs ds : List Call) (st : State) → last-state pl st (cs ++ ds) ≡ last-state pl (last-state pl st cs) ds
-  unfolding last-state
-  last-append [] ds st = refl
-  last-append (c ∷ cs) ds st = last-append cs ds (turn pl st c .state)
-
   -- a call whose result is known
   pub replies-first : (c : Call) (cs : List Call) (st : State) (t : Turned) → turn pl st c ≡ t → replies pl st (c ∷ cs) ≡ t .reply ∷ replies pl (t .state) cs
   unfolding replies

@@ -1,6 +1,6 @@
 -- The theorems about runs of an accepted plan, over every list of calls from a fresh state, refused ones included. Each cites its proof.
 -- Assumes nothing.
-use mathlib.Core.Path.{_≡_, refl, sym, subst₂}
+use mathlib.Core.Path.{_≡_, refl}
 use mathlib.Core.Bool.{true}
 use mathlib.Core.List.{List}
 use mathlib.Core.Logic.{_↔_, inl, inr}
@@ -22,7 +22,7 @@ use Rattle.machine.specs.declared.Reply.{Reply}
 use Rattle.machine.specs.declared.Reply.the-variants.{Fired, Refused}
 use Rattle.machine.specs.States.{mark, next-node, fresh, Sized, StateInShape}
 use Rattle.machine.specs.Calls.{marks-left, both-fit}
-use Rattle.machine.specs.Runs.{Call, turn, replies, last-state, fired-in, run-firings}
+use Rattle.machine.specs.Runs.{Call, turn, replies, last-state, run-firings}
 use Rattle.machine.specs.ShapeKept as kept
 use Rattle.machine.specs.ShapeKept.{kept-exactly, reached-kept}
 use Rattle.follow.specs.Bounds.{AllInBounds, AllFit32}
@@ -173,11 +173,3 @@ module _ (pl : Plan) (sound : Sound pl) where
 pub chain : (pl : Plan) (cs : List Call) {rs : List Reply} {end : State} → Chain pl fresh cs rs end
     → (rs ≡ replies pl fresh cs) × (end ≡ state-after pl cs)
 chain pl cs c = chain-is-run c
-
--- the last state of such a chain from a fresh state stands for the firings that its answers say
-pub chain-follows : (pl : Plan) (sound : Sound pl) (cs : List Call) {rs : List Reply} {end : State} → Chain pl fresh cs rs end
-    → Follows pl sound end (fired-in rs)
-unfolding run-firings
-chain-follows pl sound cs {rs} {end} c =
-    let r = chain pl cs c in
-    subst₂ (λ st ts. Follows pl sound st (fired-in ts)) (sym (r .1)) (sym (r .0)) (reached-follows pl sound cs)

@@ -7,7 +7,7 @@ use native.Mathlib.Omega.{arith}
 use mathlib.Core.Path.{_≡_, refl, sym, ap, _∙_}
 use mathlib.Core.Logic.{⊎-elim}
 use mathlib.Core.Bool.{Bool, true, false}
-use Rattle.loops.specs.Choice.{if, true-false, not-true, not-false}
+use Rattle.loops.specs.Choice.{if, true-false, not-true}
 use Rattle.loops.specs.First.{left-step}
 
 -- is f true at one of i, i + 1, .. of m numbers

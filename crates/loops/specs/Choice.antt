@@ -7,7 +7,7 @@ use mathlib.Core.List.{List}
 use mathlib.Core.Bool.{Bool, true, false, not}
 use mathlib.Core.Logic.{_⊎_, inl, inr}
 use borrow.Author.Tests.{lt-ltb, le-ltb, le-leb, lt-leb, eq-eqb, ne-eqb}
-use lib.ListN.{getD, set}
+use lib.ListN.{getD}
 use lib.Dec.{eqb, ltb, leb}
 
 -- what stands at a place of a list, and 0 past its end
@@ -147,10 +147,6 @@ eqb-left a b r e = ap (λ (x : ℕ). eqb x b) e
 
 pub eqb-both : (a b r s : ℕ) → r ≡ a → s ≡ b → eqb r s ≡ eqb a b
 eqb-both a b r s e f = rw (e, f)
-
--- a store of a call's result
-pub set-is : {A : Type 0} (l : List A) (i : ℕ) (v w : A) → v ≡ w → set l i v ≡ set l i w
-set-is l i v w e = ap (set l i) e
 
 -- what answers a `returns` that goes by tests
 pub ruleset ifs = (if-yes, if-no, lt-ltb, le-ltb, le-leb, lt-leb, eq-eqb, ne-eqb, eq-test, ne-test, lt-test, le-test)

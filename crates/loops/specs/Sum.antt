@@ -5,8 +5,7 @@ use native.Mathlib.Nat.{suc-mul, add-le-add}
 use native.Mathlib.Decide.{ℕ-discrete}
 use native.Mathlib.Numerals.{add-one}
 use native.Mathlib.Omega.{arith}
-use mathlib.Core.Path.{_≡_, refl, sym, ap, _∙_}
-use Rattle.loops.specs.Choice.{if}
+use mathlib.Core.Path.{_≡_, refl, ap, _∙_}
 
 -- the sum of f at the numbers below n
 unfoldable pub sum : (ℕ → ℕ) → ℕ → ℕ
@@ -69,16 +68,6 @@ unfolding sum
 sum-mono f g zero h = omega arith
 sum-mono f g (suc n) h = omega (arith, sum-mono f g n (λ k l. h k (omega arith)), h n (omega arith))
 
--- smaller at one place: a smaller sum
-pub sum-less : (f g : ℕ → ℕ) (n k : ℕ) → ((j : ℕ) → j < n → f j ≤ g j) → k < n → f k < g k → sum f n < sum g n
-unfolding sum
-sum-less f g zero k h l d = absurd (omega arith)
-sum-less f g (suc n) k h l d =
-    elim (ℕ-discrete k n) [
-      | yes p ↦ omega (arith, sum-mono f g n (λ j m. h j (omega arith)), ap f p, ap g p)
-      | no p ↦ omega (arith, sum-less f g n k (λ j m. h j (omega arith)) (omega arith) d, h n (omega arith))
-    ]
-
 -- nothing to add
 pub sum-none : (f : ℕ → ℕ) (n : ℕ) → ((k : ℕ) → k < n → f k ≡ 0) → sum f n ≡ 0
 unfolding sum
@@ -90,17 +79,3 @@ pub sum-split : (f : ℕ → ℕ) (a b : ℕ) → sum f (a + b) ≡ sum f a + su
 unfolding sum
 sum-split f a zero = omega (arith, ap (sum f) (let e : a + 0 ≡ a = omega arith in e))
 sum-split f a (suc b) = omega (arith, sum-split f a b, ap (sum f) (let e : a + suc b ≡ suc (a + b) = omega arith in e))
-
--- a sum with nothing outside a window
-pub sum-window : (f : ℕ → ℕ) (n a b : ℕ) → a + b ≤ n → ((k : ℕ) → k < a → f k ≡ 0) → ((k : ℕ) → a + b ≤ k → k < n → f k ≡ 0)
-    → sum f n ≡ sum (λ j. f (a + j)) b
-sum-window f n a b h low high =
-    let c : ℕ = n - (a + b) in
-    omega (
-      arith,
-      ap (sum f) (let e : n ≡ a + b + c = omega arith in e),
-      sum-split f (a + b) c,
-      sum-split f a b,
-      sum-none f a low,
-      sum-none (λ j. f (a + b + j)) c (λ j l. high (a + b + j) (omega arith) (omega arith)),
-    )

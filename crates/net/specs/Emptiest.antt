@@ -1,12 +1,11 @@
 -- The emptiest route: there is one or no route at all, and its tokens are one number.
 -- Assumes nothing.
 use mathlib.Core.Path.{_≡_, refl}
-use mathlib.Core.List.{List, [], _∷_, _++_}
+use mathlib.Core.List.{List, []}
 use mathlib.Core.Logic.{_⊎_, inl, inr}
-use Prim.Native.Nat.{ℕ, _+_, _≤_, _<_}
+use Prim.Native.Nat.{ℕ, _≤_, _<_}
 use native.Mathlib.Omega.{arith}
 use Rattle.net.specs.Graph.{Graph, Marking, Shaped, tokens-on, Route, Emptiest, Linked}
-use Rattle.net.specs.Append.{tokens-on-append, route-append}
 use Rattle.net.specs.Shorten.{Shortened, shorten}
 use Rattle.net.specs.Fewest.{Fewest, fewest, nothing, fewest-of, Within, fewest-within}
 
@@ -20,14 +19,6 @@ module _ (G : Graph) (μ : Marking) where
   pub emptiest-self : (m : ℕ) → Emptiest G μ m m 0
   unfolding Route tokens-on
   emptiest-self m = record { some = ([], refl, refl); least = λ es r. omega arith }
-
-  -- one edge further it is at most that edge's tokens more
-  pub emptiest-triangle : (m n v d d′ e : ℕ) → Emptiest G μ m n d → e < G .edges → G .source e ≡ n → G .destination e ≡ v
-      → Emptiest G μ m v d′ → d′ ≤ d + μ e
-  unfolding Route tokens-on
-  emptiest-triangle m n v d d′ e a h p q b =
-      let es = a .some .0 in
-      omega (arith, b .least (es ++ (e ∷ [])) (route-append G es (e ∷ []) m n v (a .some .1) (h, p, q)), tokens-on-append μ es (e ∷ []), a .some .2)
 
   module _ (shaped : Shaped G) (m n : ℕ) (h : m < G .nodes) where
     -- there is an emptiest route, or none at all

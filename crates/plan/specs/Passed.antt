@@ -22,14 +22,6 @@ abbrev pub IsFault : (ℕ → Bool) → ℕ → (ℕ → Type 0) → Type 0
 IsFault f n Fault = (place : ℕ) → ((place < n) × (f place ≡ true)) ↔ Fault place
 
 module _ {f : ℕ → Bool} {n : ℕ} {Fault : ℕ → Type 0} (is : IsFault f n Fault) where
-  -- the search ends at a fault
-  pub found : first f n < n → Fault (first f n)
-  found h = is (first f n) .0 (h, first-here f n h)
-
-  -- and there is none at a lower place
-  pub none-lower : (place : ℕ) → place < first f n → Fault place → ⊥
-  none-lower place h t = true-false (sym (is place .1 t .1) ∙ first-below f n place h)
-
   -- it ends at n exactly where the test passes
   pub passes : n ≤ first f n → Passes Fault
   passes h place t = let s = is place .1 t in true-false (sym (s .1) ∙ first-none f n place h (s .0))

@@ -7,10 +7,9 @@ use mathlib.Core.Bool.{true, false}
 use native.Mathlib.Omega.{arith}
 use borrow.Author.Tests.{lt-ltb, le-ltb}
 use Rattle.loops.specs.Choice.{at}
-use Rattle.loops.specs.First.{first-le}
 use Rattle.loops.specs.Sum.{Sum, sum}
 use Rattle.plan.specs.Value.{base}
-use Rattle.plan.specs.Tests.{ends-past, process-at, place-of, home-of}
+use Rattle.plan.specs.Tests.{ends-past}
 
 -- the sum with process p's length is above i: p ends past i
 pub ends-here : (lengths : List ℕ) {n p end r : ℕ} (i : ℕ) → Sum (at lengths) n p end → r ≡ at lengths p → i < end + r → true ≡ ends-past lengths i p
@@ -21,8 +20,3 @@ ends-here lengths {p = p} i inv e h = sym (lt-ltb i (sum (at lengths) p + at len
 pub ends-before : (lengths : List ℕ) {n p end r : ℕ} (i : ℕ) → Sum (at lengths) n p end → r ≡ at lengths p → end + r ≤ i → false ≡ ends-past lengths i p
 unfolding ends-past base sum
 ends-before lengths {p = p} i inv e h = sym (le-ltb i (sum (at lengths) p + at lengths p) (omega arith))
-
--- a process that is found is at most the number of processes
-pub home-of-le : (order lengths : List ℕ) (nodes processes v : ℕ) → home-of order lengths nodes processes v ≤ processes
-unfolding home-of process-at
-home-of-le order lengths nodes processes v = first-le (ends-past lengths (place-of order nodes v)) processes

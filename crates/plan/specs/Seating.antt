@@ -20,7 +20,7 @@ use Rattle.plan.specs.Value.{graph-of, base, node-at, HasProcesses, Sits
 use Rattle.plan.specs.Tests.{stands-at, place-of, ends-past, process-at, home-of, home, seat, synchronises, different, home-table}
 use Rattle.plan.specs.Tables.{Tabled}
 use Rattle.plan.specs.Formed.{past}
-use Rattle.plan.specs.Onto.{onto}
+use Rattle.plan.specs.Onto.{Once, onto}
 
 -- the process of a position: it begins at or before it and ends past it
 module _ (lengths : List ℕ) (processes i : ℕ) where
@@ -47,21 +47,31 @@ module _ (lengths : List ℕ) (processes i : ℕ) where
       first-unique (ends-past lengths i) processes p h (lt-ltb i (base lengths (suc p)) m)
       (λ k b. le-ltb i (base lengths (suc k)) (omega (arith, sum-step (at lengths) (suc k) p b)))
 
+-- in an order of different nodes each has a position, at which it stands
+module _ (order : List ℕ) (nodes : ℕ) (once : Once (at order) nodes) where
+  pub placed-lt : (v : ℕ) → v < nodes → place-of order nodes v < nodes
+  unfolding place-of stands-at
+  placed-lt v h =
+      elim (decLt (place-of order nodes v) nodes) [
+        | yes l ↦ l
+        | no l ↦ absurd (onto nodes (at order) once v h (λ i m. eqb-false _ _ (first-none (stands-at order v) nodes i (omega arith) m)))
+      ]
+
+  pub placed-there : (v : ℕ) → v < nodes → at order (place-of order nodes v) ≡ v
+  unfolding place-of stands-at
+  placed-there v h = eqb-true _ _ (first-here (stands-at order v) nodes (placed-lt v h))
+
+-- so it is in a plan whose tests pass
+pub order-once : (pl : Plan) → Tabled pl → Once (at (pl .order)) (pl .nodes)
+order-once pl t = record { small = t .order-lt; apart = t .order-apart }
+
 module _ (pl : Plan) (t : Tabled pl) where
   -- the position of a node, and the node of a position
   pub place-lt : (v : ℕ) → v < pl .nodes → place-of (pl .order) (pl .nodes) v < pl .nodes
-  unfolding place-of stands-at
-  place-lt v h =
-      elim (decLt (place-of (pl .order) (pl .nodes) v) (pl .nodes)) [
-        | yes l ↦ l
-        | no l ↦
-            absurd (onto (pl .nodes) (at (pl .order)) (record { small = t .order-lt; apart = t .order-apart }) v h
-            (λ i m. eqb-false _ _ (first-none (stands-at (pl .order) v) (pl .nodes) i (omega arith) m)))
-      ]
+  place-lt = placed-lt (pl .order) (pl .nodes) (order-once pl t)
 
   pub node-there : (v : ℕ) → v < pl .nodes → at (pl .order) (place-of (pl .order) (pl .nodes) v) ≡ v
-  unfolding place-of stands-at
-  node-there v h = eqb-true _ _ (first-here (stands-at (pl .order) v) (pl .nodes) (place-lt v h))
+  node-there = placed-there (pl .order) (pl .nodes) (order-once pl t)
 
   pub place-is : (i : ℕ) → i < pl .nodes → place-of (pl .order) (pl .nodes) (at (pl .order) i) ≡ i
   place-is i h = let l = t .order-lt i h in t .order-apart _ i (place-lt (at (pl .order) i) l) h (node-there (at (pl .order) i) l)

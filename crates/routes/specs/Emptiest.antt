@@ -14,7 +14,7 @@ use Rattle.net.specs.Tables.{graph-of-tables}
 use Rattle.net.specs.Append.{tokens-on-append, route-append}
 use Rattle.net.specs.Shorten.{emptiest-bound}
 use Rattle.net.specs.Emptiest.{emptiest-or-none, emptiest-unique}
-use Rattle.routes.specs.Rows.{no-route, start, relaxed, round, emptiest-row}
+use Rattle.routes.specs.Rows.{no-route, start, relaxed, sweep, emptiest-row}
 use Rattle.routes.specs.Relaxing.{EndsInRow, Stable, relaxed-there, relaxed-elsewhere, relaxed-le}
 use Rattle.routes.specs.Settling.{start-from, start-elsewhere, row-keeps, row-stable, row-most}
 
@@ -85,9 +85,9 @@ module _ (nodes edges : ℕ) (source destination tokens : List ℕ) where
                 ];
           }
 
-      round-sound : (row : List ℕ) → Sound row → Sound (round source destination tokens edges row)
-      unfolding round
-      round-sound row a = fold-keeps Sound (relaxed source destination tokens) row edges a (λ e x h. relaxed-sound e x h)
+      sweep-sound : (row : List ℕ) → Sound row → Sound (sweep source destination tokens edges row)
+      unfolding sweep
+      sweep-sound row a = fold-keeps Sound (relaxed source destination tokens) row edges a (λ e x h. relaxed-sound e x h)
 
     -- the tables are a graph's of at most 64 nodes, with at most 1,000 tokens an edge
     module _ (few : nodes ≤ 64) (shaped : Shaped G) (light : (e : ℕ) → e < edges → at tokens e ≤ 1000) (inside : from < nodes) where
@@ -95,7 +95,7 @@ module _ (nodes edges : ℕ) (source destination tokens : List ℕ) where
       row = emptiest-row source destination tokens edges from
 
       row-sound : Sound row
-      row-sound = row-keeps source destination tokens edges Sound (round-sound (ends-in-row few shaped)) from (start-sound (omega arith))
+      row-sound = row-keeps source destination tokens edges Sound (sweep-sound (ends-in-row few shaped)) from (start-sound (omega arith))
 
       -- no entry is above the tokens of a route
       row-le : (es : List ℕ) (v : ℕ) → Route G from es v → at row v ≤ tokens-on (G .tokens) es

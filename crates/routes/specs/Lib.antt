@@ -6,5 +6,5 @@ pub mod Relaxing
 pub mod Settling
 -- the row's entries are the tokens of the emptiest routes
 pub mod Emptiest
--- the row goes only by the entries below `edges`
-pub mod Same
+-- each promise leaves room for one answer
+pub mod Unique

@@ -1,5 +1,5 @@
--- What relaxing does to a row: entries only fall, and a round that leaves their sum as it is leaves the row as it is.
--- The last part is what a round's loop needs. Assumes nothing.
+-- What relaxing does to a row: entries only fall, and a sweep that leaves their sum as it is leaves the row as it is.
+-- The last part is what a sweep's loop needs. Assumes nothing.
 use Prim.Native.Nat.{ℕ, zero, suc, _+_, _-_, _<_, _≤_, min}
 use native.Mathlib.Nat.{eq-or-lt-of-le, le-of-suc-le-suc}
 use native.Mathlib.Decide.{ℕ-discrete, decLt}
@@ -14,7 +14,7 @@ use lib.Seq.{getD-set-same, getD-set-other, set-getD, set-out}
 use Rattle.loops.specs.Choice.{at}
 use Rattle.loops.specs.Sum.{sum, sum-le, sum-same, sum-mono}
 use Rattle.loops.specs.Fold.{fold, Fold, fold-begin, fold-more, fold-over, fold-keeps}
-use Rattle.routes.specs.Rows.{no-route, total, lowered, relaxed, round}
+use Rattle.routes.specs.Rows.{no-route, total, lowered, relaxed, sweep}
 
 -- no entry is above `no-route`
 abbrev pub Low : List ℕ → Type 0
@@ -108,22 +108,22 @@ module _ (source destination tokens : List ℕ) where
               (eq-or-lt-of-le (le-of-suc-le-suc l)),
         )
 
-    -- a round raises no entry
-    pub round-le : (edges v : ℕ) → at (round source destination tokens edges row) v ≤ at row v
-    unfolding round
-    round-le edges v = fold-le edges v
+    -- a sweep raises no entry
+    pub sweep-le : (edges v : ℕ) → at (sweep source destination tokens edges row) v ≤ at row v
+    unfolding sweep
+    sweep-le edges v = fold-le edges v
 
-    pub round-total-le : (edges : ℕ) → total (round source destination tokens edges row) ≤ total row
-    unfolding round
-    round-total-le edges = fold-total-le edges
+    pub sweep-total-le : (edges : ℕ) → total (sweep source destination tokens edges row) ≤ total row
+    unfolding sweep
+    sweep-total-le edges = fold-total-le edges
 
-    -- a round that leaves the sum as it is changes nothing, and no edge can lower the row
-    pub round-kept : (edges : ℕ) → EndsInRow source destination edges → total (round source destination tokens edges row) ≡ total row
-        → (round source destination tokens edges row ≡ row) × Stable edges row
-    unfolding round
-    round-kept edges ends q = fold-kept edges (ends .destination-lt) q
+    -- a sweep that leaves the sum as it is changes nothing, and no edge can lower the row
+    pub sweep-kept : (edges : ℕ) → EndsInRow source destination edges → total (sweep source destination tokens edges row) ≡ total row
+        → (sweep source destination tokens edges row ≡ row) × Stable edges row
+    unfolding sweep
+    sweep-kept edges ends q = fold-kept edges (ends .destination-lt) q
 
--- a round's loop at edge e: the row so far, by how much its sum has fallen, and its entries' bound
+-- a sweep's loop at edge e: the row so far, by how much its sum has fallen, and its entries' bound
 pub record Relaxing (source destination tokens : List ℕ) (edges : ℕ) (row : List ℕ) (e : ℕ) (out : List ℕ) (drop : ℕ) : Type 0 where
   pub so-far : Fold (relaxed source destination tokens) row edges e out
   pub fallen : drop + total out ≡ total row
@@ -159,8 +159,8 @@ module _ {source destination tokens : List ℕ} {edges : ℕ} {row : List ℕ} {
         bound = λ v. omega (arith, inv .bound v, ap (λ x. at x v) next, relaxed-le source destination tokens e out v);
       }
 
-  pub relaxing-over : edges ≤ e → out ≡ round source destination tokens edges row
-  unfolding round
+  pub relaxing-over : edges ≤ e → out ≡ sweep source destination tokens edges row
+  unfolding sweep
   relaxing-over h = fold-over (inv .so-far) h
 
   pub relaxing-low : (v : ℕ) → at out v ≤ no-route

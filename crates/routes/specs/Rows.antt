@@ -1,4 +1,4 @@
--- The row of emptiest routes from one node as a computation: relaxed edge by edge, round by round, until nothing changes.
+-- The row of emptiest routes from one node as a computation: relaxed edge by edge, sweep by sweep, until nothing changes.
 -- Assumes nothing.
 use Prim.Native.Nat.{ℕ, zero, suc, _+_, min}
 use mathlib.Core.List.{List}
@@ -12,9 +12,9 @@ use Rattle.loops.specs.Fold.{fold}
 abbrev pub no-route : ℕ
 no-route = 100000
 
--- more rounds than can lower the sum of a row: 64 entries of `no-route` sum to less
-abbrev pub enough-rounds : ℕ
-enough-rounds = 6400001
+-- more sweeps than can lower the sum of a row: 64 entries of `no-route` sum to less
+abbrev pub enough-sweeps : ℕ
+enough-sweeps = 6400001
 
 -- the sum of a row's entries
 unfoldable pub total : List ℕ → ℕ
@@ -34,17 +34,17 @@ module _ (source destination tokens : List ℕ) where
   relaxed e row = set row (at destination e) (lowered e row)
 
   -- the row after every edge in turn
-  unfoldable pub round : ℕ → List ℕ → List ℕ
-  round edges row = fold relaxed row edges
+  unfoldable pub sweep : ℕ → List ℕ → List ℕ
+  sweep edges row = fold relaxed row edges
 
-  -- the row after at most so many rounds, ending with the first that does not lower the sum
+  -- the row after at most so many sweeps, ending with the first that does not lower the sum
   unfoldable pub settled : ℕ → ℕ → List ℕ → List ℕ
   settled edges zero row = row
-  settled edges (suc rounds) row =
-      let next = round edges row in
-      let rest = settled edges rounds next in
+  settled edges (suc sweeps) row =
+      let next = sweep edges row in
+      let rest = settled edges sweeps next in
       if (eqb (total next) (total row)) next rest
 
   -- the tokens of the emptiest route from `from` to each node
   unfoldable pub emptiest-row : ℕ → ℕ → List ℕ
-  emptiest-row edges from = settled edges enough-rounds (start from)
+  emptiest-row edges from = settled edges enough-sweeps (start from)

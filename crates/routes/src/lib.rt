@@ -1,14 +1,14 @@
-// The row of emptiest routes from one node: relaxed round by round until nothing changes.
+// The row of emptiest routes from one node: relaxed sweep by sweep until nothing changes.
 ghost use mathlib.Core.Path.{_≡_};
 ghost use Prim.Native.Nat.{_+_, _<_, _≤_, min};
-ghost use Rattle.routes.specs.Rows.{no-route, total, round, emptiest-row};
+ghost use Rattle.routes.specs.Rows.{no-route, total, sweep, emptiest-row};
 ghost use Rattle.routes.specs.Relaxing.{Low, EndsInRow};
 
 // Stands for no route: the tokens of an emptiest route are fewer.
 pub const NO_ROUTE: u32 = 100000;
 
-// A row after a round, and by how much the sum of its entries has fallen.
-pub struct Round {
+// A row after a sweep, and by how much the sum of its entries has fallen.
+pub struct Sweep {
     pub row: [u32; 64],
     pub drop: u32,
 }
@@ -29,16 +29,16 @@ fn smaller(entry: u32, before: u32, tokens: u16) -> u32
     if through < entry { through } else { entry }
 }
 
-// A round: every edge in turn lowers its destination's entry.
-pub fn relax_round<'a>(
+// A sweep: every edge in turn lowers its destination's entry.
+pub fn relax_sweep<'a>(
     row: [u32; 64],
     source: &'a [u16; 512],
     destination: &'a [u16; 512],
     tokens: &'a [u16; 512],
     edges: usize,
-) -> Round
+) -> Sweep
     requires { ⌜ (edges ≤ 512) × EndsInRow (now source) (now destination) edges × Low row ⌝ }
-    ensures { λ r. ⌜ (r .row ≡ round (now (source .entry)) (now (destination .entry)) (now (tokens .entry)) edges row) × (r .drop + total (r .row) ≡ total row) ⌝ }
+    ensures { λ r. ⌜ (r .row ≡ sweep (now (source .entry)) (now (destination .entry)) (now (tokens .entry)) edges row) × (r .drop + total (r .row) ≡ total row) ⌝ }
 {
     let mut out = row;
     let mut drop: u32 = 0;
@@ -52,10 +52,10 @@ pub fn relax_round<'a>(
         drop += entry - lower;
         e += 1;
     }
-    Round { row: out, drop }
+    Sweep { row: out, drop }
 }
 
-// The tokens of the emptiest route from one node to each: rounds until nothing changes.
+// The tokens of the emptiest route from one node to each: sweeps until nothing changes.
 pub fn emptiest_row<'a>(
     from: usize,
     source: &'a [u16; 512],
@@ -69,9 +69,9 @@ pub fn emptiest_row<'a>(
     let mut row = [NO_ROUTE; 64];
     row[from] = 0;
     loop {
-        let round = relax_round(row, source, destination, tokens, edges);
-        row = round.row;
-        if round.drop == 0 {
+        let sweep = relax_sweep(row, source, destination, tokens, edges);
+        row = sweep.row;
+        if sweep.drop == 0 {
             return row;
         }
     }

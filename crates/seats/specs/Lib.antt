@@ -2,3 +2,5 @@
 pub mod Crossing
 -- that the row says so of a plan
 pub mod Laws
+-- the processes of the nodes, entered in firing order
+pub mod Housed

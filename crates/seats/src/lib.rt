@@ -3,7 +3,9 @@ ghost use mathlib.Core.Path.{_≡_};
 ghost use Prim.Native.Nat.{_<_, _≤_};
 ghost use Rattle.loops.specs.Choice.{at};
 ghost use Rattle.loops.specs.Table.{padded};
+ghost use Rattle.plan.specs.Onto.{Once};
 ghost use Rattle.plan.specs.Tests.{stands-at, place-of, home-of, different};
+ghost use Rattle.seats.specs.Housed.{ended};
 ghost use Rattle.seats.specs.Crossing.{crosses, EndsOk};
 
 // A node stands at an order position.
@@ -29,36 +31,41 @@ pub fn position_of_node(order: &[u16; 64], nodes: usize, v: usize) -> usize
     i
 }
 
-// The process of a node.
-pub fn home_of_node<'a>(
-    order: &'a [u16; 64],
-    lengths: &'a [u16; 64],
-    nodes: usize,
-    processes: usize,
-    v: usize,
-) -> usize
-    requires { ⌜ (nodes ≤ 64) × (processes ≤ 64) ⌝ }
-    ensures { λ r. ⌜ r ≡ home-of (now (order .entry)) (now (lengths .entry)) nodes processes v ⌝ }
+// Process p, which begins at position `start`, is there and ends at or before position i.
+fn ends_by(lengths: &[u16; 64], processes: usize, p: usize, start: usize, i: usize) -> bool
+    requires { ⌜ (processes ≤ 64) × (start ≤ i) × (i < 64) ⌝ }
+    ensures { λ r. ⌜ r ≡ ended (now (lengths .entry)) processes p start i ⌝ }
 {
-    let i = position_of_node(order, nodes, v);
-    plan::process_of_position(lengths, processes, i)
+    if p < processes {
+        plan::wide(lengths[p]) <= i - start
+    } else {
+        false
+    }
 }
 
-// The process of each node, 0 past the count.
+// The process of each node, 0 past the count. One pass over positions and processes: each turn goes on to the next process or enters
+// the process of the node at position i.
 pub fn homes<'a>(
     order: &'a [u16; 64],
     lengths: &'a [u16; 64],
     nodes: usize,
     processes: usize,
 ) -> [u16; 64]
-    requires { ⌜ (nodes ≤ 64) × (processes ≤ 64) ⌝ }
+    requires { ⌜ (nodes ≤ 64) × (processes ≤ 64) × Once (at (now order)) nodes ⌝ }
     ensures { λ r. ⌜ r ≡ padded (home-of (now (order .entry)) (now (lengths .entry)) nodes processes) 64 nodes ⌝ }
 {
     let mut table: [u16; 64] = [0; 64];
-    let mut v: usize = 0;
-    while v < nodes {
-        table[v] = home_of_node(order, lengths, nodes, processes, v) as u16;
-        v += 1;
+    let mut p: usize = 0;
+    let mut start: usize = 0;
+    let mut i: usize = 0;
+    while i < nodes {
+        if ends_by(lengths, processes, p, start, i) {
+            start += plan::wide(lengths[p]);
+            p += 1;
+        } else {
+            table[plan::wide(order[i])] = p as u16;
+            i += 1;
+        }
     }
     table
 }

@@ -6,6 +6,7 @@ use Rattle.loops.specs.Table.{padded}
 use Rattle.plan.specs.declared.Plan.{Plan}
 use Rattle.plan.specs.Value.{plan-with, counter-sum}
 use Rattle.plan.specs.Refusing.{refused-here, passed-here}
+use Rattle.plan.specs.Seating.{order-once}
 use Rattle.seats.specs.Crossing.{crosses, crossing-table}
 use Rattle.seats.specs.Laws.{ends-ok}
 use Rattle.rounds.specs.Lent.{bad-counter-in}
@@ -36,6 +37,9 @@ is-10 c =
 returns : tie.Need-returns
 unfolding from-9
 returns c = refused-here _ _ _ _ _ _ _ (c .refused .ensures) (c .before .before .first-bad-position .ensures) (c .before .if1 .taken)
+
+homes-requires : tie.Need-homes-requires
+homes-requires c κs = let s = c .before .before in (s .pre .counts .nodes-most, s .pre .counts .processes-most, order-once (lent s) (s .pre))
 
 returns-2 : tie.Need-returns-2
 unfolding from-9
@@ -78,7 +82,7 @@ from-9-spec =
     (λ c κs. search needs)
     (λ c κs. search needs)
     returns
-    (λ c κs. search needs)
+    homes-requires
     (λ c κs. search needs)
     (λ c κs. search needs)
     returns-2

@@ -1,9 +1,16 @@
 -- `machine::crossing` meets its contract. Assumes nothing.
 use borrow.Author.Needs.{needs}
+use Rattle.plan.specs.Seating.{order-once}
 use Rattle.seats.specs.Laws.{ends-ok}
 use Rattle.machine.specs.Same.{crossing-from}
 use Rattle.machine.proofs.crossing.Statement.{statement}
 use Rattle.machine.proofs.crossing.Tie as tie
+
+homes-requires : tie.Need-homes-requires
+homes-requires c κs =
+    let at-wide = c .before in
+    let t = at-wide .before .before .before .before .pre in
+    (search needs, search needs, rw (at-wide .wide .ensures) (order-once _ t))
 
 crossing-row-requires : tie.Need-crossing-row-requires
 crossing-row-requires c κs = search (needs, ends-ok)
@@ -22,7 +29,7 @@ crossing-spec =
     (tie.spec
     (λ c κs. search needs)
     (λ c κs. search needs)
-    (λ c κs. search needs)
+    homes-requires
     (λ c κs. search needs)
     crossing-row-requires
     returns)

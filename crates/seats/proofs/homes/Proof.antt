@@ -1,25 +1,54 @@
 -- `seats::homes` meets its contract. Assumes nothing.
 use borrow.Author.Needs.{needs}
-use Prim.Native.Nat.{_-_}
-use Rattle.loops.specs.Table.{Fill, fills}
-use Rattle.plan.specs.Tests.{home-of}
+use Prim.Native.Nat.{_+_, _-_, _<_, _≤_}
 use native.Mathlib.Omega.{arith}
-use Rattle.plan.specs.Running.{home-of-le}
+use Rattle.loops.specs.Choice.{at}
+use Rattle.seats.specs.Housed.{Housed, ended-means, housed-begin, housed-on, housed-more, housed-over}
 use Rattle.seats.proofs.homes.Statement.{statement}
 use Rattle.seats.proofs.homes.Tie as tie
 
 abbrev Inv-loop : tie.InvT-loop
-Inv-loop order lengths nodes processes table₀ v₀ table v = Fill (home-of order lengths nodes processes) 64 nodes v table
+Inv-loop order lengths nodes processes table₀ p₀ start₀ i₀ table p start i = Housed order lengths nodes processes p start i table
 
 abbrev μ-loop : tie.MeasureT-loop
-μ-loop order lengths nodes processes table₀ v₀ table v = nodes - v
+μ-loop order lengths nodes processes table₀ p₀ start₀ i₀ table p start i = (nodes - i) + (processes - p)
 
-cast-table : tie.Need-cast-table Inv-loop μ-loop
-cast-table c = let a = c .before .before .before .args in
-    omega (arith, c .home-of-node .ensures, home-of-le (a .order .now) (a .lengths .now) (a .nodes) (a .processes) (c .before .before .loop .v))
+-- a turn that goes on: process p is there, and ends at or before position i
+goes-on : (c : tie.Then1 Inv-loop μ-loop)
+    → (c .before .before .before .loop .p < c .before .before .before .before .args .processes)
+    × (at (c .before .before .before .before .args .lengths .now) (c .before .before .before .loop .p)
+    ≤ c .before .before .before .loop .i - c .before .before .before .loop .start)
+goes-on c = ended-means _ _ _ _ _ _ (c .before .ends-by .ensures) (c .if1 .taken)
 
-returns : tie.Need-returns Inv-loop μ-loop
-returns c = search (needs, fills)
+element-copy-out-wide : tie.Need-element-copy-out-wide Inv-loop μ-loop
+element-copy-out-wide c = omega (arith, goes-on c .0)
+
+mul-wide : tie.Need-mul-wide Inv-loop μ-loop
+mul-wide c = record { fits = omega (arith, goes-on c .0) }
+
+add-start : tie.Need-add-start Inv-loop μ-loop
+add-start c = record { fits = omega (arith, c .wide .ensures, goes-on (c .before .before) .1) }
+
+loop-less : tie.Need-loop-less Inv-loop μ-loop
+loop-less c = omega (arith, goes-on (c .before .before) .0)
+
+loop-again : tie.Need-loop-again Inv-loop μ-loop
+loop-again c =
+    let test = c .before .before .before in
+    housed-on (test .before .before .loop .inv) (test .ends-by .ensures) (c .before .before .if1 .taken) (omega (arith, c .wide .ensures))
+
+-- a turn that enters a process: the node at position i is below 64
+small : (c : tie.After-wide2 Inv-loop μ-loop) → c .wide2 .result < 64
+small c =
+    let loop = c .before .before .before .before in
+    omega (arith, c .wide2 .ensures, loop .before .before .pre .2 .small (loop .before .loop .i) (loop .loop-test .taken))
+
+loop-again-2 : tie.Need-loop-again-2 Inv-loop μ-loop
+loop-again-2 c =
+    let test = c .before .before .before in
+    let turn = test .before in
+    housed-more (turn .before .loop .inv) (turn .loop-test .taken) (turn .before .before .pre .0) (turn .before .before .pre .2) (test .ends-by .ensures)
+    (c .before .before .if1 .left) (omega (arith, c .wide2 .ensures)) (omega arith)
 
 pub homes-spec : {M : Type 1} → statement M
 homes-spec =
@@ -27,12 +56,22 @@ homes-spec =
     (tie.spec
     Inv-loop
     μ-loop
-    (λ c. search (needs, fills))
+    (λ c. search (needs, housed-begin))
     (λ c κs. search needs)
-    cast-table
+    mul-wide
+    element-copy-out-wide
+    (λ c κs. search needs)
+    add-start
+    (λ c. search needs)
+    loop-less
+    loop-again
     (λ c. search needs)
     (λ c. search needs)
     (λ c. search needs)
+    (λ c κs. search needs)
+    (λ c. record { fits = omega (arith, small c) })
+    (λ c. small c)
     (λ c. search needs)
-    (λ c. search (needs, fills))
-    returns)
+    (λ c. search needs)
+    loop-again-2
+    (λ c. search (needs, housed-over)))

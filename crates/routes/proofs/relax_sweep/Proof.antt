@@ -1,10 +1,10 @@
--- `routes::relax_round` meets its contract. Assumes nothing.
+-- `routes::relax_sweep` meets its contract. Assumes nothing.
 use borrow.Author.Needs.{needs}
 use native.Mathlib.Omega.{arith}
 use Prim.Native.Nat.{_-_}
 use Rattle.routes.specs.Relaxing.{Relaxing, relaxing-begin, relaxing-more, relaxing-over, relaxing-low, relaxing-fits, indices}
-use Rattle.routes.proofs.relax_round.Statement.{statement}
-use Rattle.routes.proofs.relax_round.Tie as tie
+use Rattle.routes.proofs.relax_sweep.Statement.{statement}
+use Rattle.routes.proofs.relax_sweep.Tie as tie
 
 abbrev Inv-loop : tie.InvT-loop
 Inv-loop source destination tokens edges out₀ drop₀ e₀ out drop e = Relaxing source destination tokens edges out₀ e out drop
@@ -19,8 +19,8 @@ loop-again c =
     let turn = first .before .before .before in
     relaxing-more (turn .loop .inv) (turn .before .pre .1) (omega arith) (first .wide .ensures .0) (second .wide2 .ensures .0) (c .smaller .ensures)
 
-pub relax-round-spec : {M : Type 1} → statement M
-relax-round-spec =
+pub relax-sweep-spec : {M : Type 1} → statement M
+relax-sweep-spec =
     tie.close
     (tie.spec
     Inv-loop
