@@ -75,7 +75,7 @@ fn bad_order_at(order: &[u16; 64], nodes: usize, i: usize) -> bool
     requires { ⌜ i < 64 ⌝ }
     ensures { λ r. ⌜ r ≡ bad-order (now (order .entry)) nodes i ⌝ }
 {
-    if nodes <= plan::wide(order[i]) {
+    if nodes <= bytes::to_index(order[i]) {
         true
     } else {
         seen_before(order, i)
@@ -107,7 +107,7 @@ fn bad_node_at<'a>(
     requires { ⌜ v < 64 ⌝ }
     ensures { λ r. ⌜ r ≡ bad-node (now (counter .entry)) (now (increment .entry)) counters v ⌝ }
 {
-    if counters <= plan::wide(counter[v]) {
+    if counters <= bytes::to_index(counter[v]) {
         true
     } else {
         255 < increment[v]
@@ -167,10 +167,10 @@ fn bad_edge_at<'a>(
     requires { ⌜ e < 512 ⌝ }
     ensures { λ r. ⌜ r ≡ bad-edge (now (source .entry)) (now (destination .entry)) (now (tokens .entry)) nodes e ⌝ }
 {
-    if nodes <= plan::wide(source[e]) {
+    if nodes <= bytes::to_index(source[e]) {
         return true;
     }
-    if nodes <= plan::wide(destination[e]) {
+    if nodes <= bytes::to_index(destination[e]) {
         return true;
     }
     if 1000 < tokens[e] {

@@ -6,7 +6,8 @@ use Prim.Native.Nat.{ℕ}
 use lib.Dec.{eqb}
 use lib.ListN.{length}
 use Rattle.loops.specs.Choice.{both}
-use Rattle.image.specs.Image.{two-bytes, four-bytes, order-start, node-start, edge-start, total}
+use Rattle.bytes.specs.LittleEndian.{two-bytes, four-bytes}
+use Rattle.image.specs.Image.{order-start, node-start, edge-start, total}
 
 -- number 2
 unfoldable pub good-format : List ℕ → Bool

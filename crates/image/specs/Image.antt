@@ -4,18 +4,11 @@ use mathlib.Core.Path.{_≡_}
 use mathlib.Core.List.{List}
 use Prim.Native.Nat.{ℕ, _+_, _*_}
 use lib.ListN.{length}
-use Rattle.loops.specs.Choice.{at}
 use Rattle.loops.specs.Sum.{sum}
 use Rattle.loops.specs.Table.{padded}
+use Rattle.bytes.specs.LittleEndian.{two-bytes, four-bytes}
 use Rattle.plan.specs.declared.Plan.{Plan}
 use Rattle.plan.specs.Value.{share}
-
--- "Unsigned little-endian numbers": two bytes and four bytes at a place
-unfoldable pub two-bytes : List ℕ → ℕ → ℕ
-two-bytes s i = at s i + 256 * at s (i + 1)
-
-unfoldable pub four-bytes : List ℕ → ℕ → ℕ
-four-bytes s i = two-bytes s i + 65536 * two-bytes s (i + 2)
 
 -- entry k of a table of two-byte numbers at a place, one every `step` bytes
 unfoldable pub entry : List ℕ → ℕ → ℕ → ℕ → ℕ

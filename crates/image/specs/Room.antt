@@ -7,7 +7,8 @@ use mathlib.Core.List.{List}
 use Prim.Native.Nat.{ℕ, _+_, _*_, _≤_, _<_}
 use lib.ListN.{length}
 use Rattle.plan.specs.declared.Plan.{Plan}
-use Rattle.image.specs.Image.{two-bytes, total}
+use Rattle.bytes.specs.LittleEndian.{two-bytes}
+use Rattle.image.specs.Image.{total}
 
 -- n numbers of two bytes, one every `step` bytes from `start` on, lie within the image
 abbrev pub Room : List ℕ → ℕ → ℕ → ℕ → Type 0

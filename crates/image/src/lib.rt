@@ -1,62 +1,22 @@
-// A plan image: its little-endian numbers, tests 2 and 4, and the plan value that its numbers give.
+// A plan image: tests 2 and 4, and the plan value that its numbers give.
 ghost use mathlib.Core.Path.{_≡_};
 ghost use Prim.Native.Nat.{_+_, _*_, _<_, _≤_};
 ghost use lib.Dec.{eqb};
 ghost use lib.ListN.{length};
 ghost use Rattle.loops.specs.Table.{padded};
-ghost use Rattle.image.specs.Image.{two-bytes, four-bytes, entry, order-start, node-start, edge-start, total, plan-of};
+ghost use Rattle.bytes.specs.LittleEndian.{two-bytes, four-bytes};
+ghost use Rattle.image.specs.Image.{entry, order-start, node-start, edge-start, total, plan-of};
 ghost use Rattle.image.specs.Room.{Room, Laid};
 ghost use Rattle.image.specs.Header.{good-format, good-offsets, good-later-offsets};
 use plan::Plan;
-
-// A byte, wide enough to be joined to another.
-fn wide_byte(x: u8) -> u16
-    ensures { λ r. ⌜ (r ≡ x) × (r < 256) ⌝ }
-{
-    x as u16
-}
-
-fn wide_pair(x: u16) -> u32
-    ensures { λ r. ⌜ (r ≡ x) × (r < 65536) ⌝ }
-{
-    x as u32
-}
-
-fn wide(x: u16) -> usize
-    ensures { λ r. ⌜ (r ≡ x) × (r < 65536) ⌝ }
-{
-    x as usize
-}
-
-fn wide_quad(x: u32) -> usize
-    ensures { λ r. ⌜ r ≡ x ⌝ }
-{
-    x as usize
-}
-
-// The number of two bytes at a place, the lower byte first.
-pub fn pair_at(image: &[u8], place: usize) -> u16
-    requires { ⌜ place + 1 < length (now image) ⌝ }
-    ensures { λ r. ⌜ r ≡ two-bytes (now (image .entry)) place ⌝ }
-{
-    wide_byte(image[place]) + 256 * wide_byte(image[place + 1])
-}
-
-// The number of four bytes at a place.
-pub fn quad_at(image: &[u8], place: usize) -> u32
-    requires { ⌜ place + 3 < length (now image) ⌝ }
-    ensures { λ r. ⌜ r ≡ four-bytes (now (image .entry)) place ⌝ }
-{
-    wide_pair(pair_at(image, place)) + 65536 * wide_pair(pair_at(image, place + 2))
-}
 
 // Number 2: the format is 1, and bytes 10 and 11 are zero.
 pub fn format_fits(image: &[u8]) -> bool
     requires { ⌜ 36 ≤ length (now image) ⌝ }
     ensures { λ r. ⌜ r ≡ good-format (now (image .entry)) ⌝ }
 {
-    let zero = pair_at(image, 10);
-    if pair_at(image, 0) == 1 {
+    let zero = bytes::pair_at(image, 10);
+    if bytes::pair_at(image, 0) == 1 {
         zero == 0
     } else {
         false
@@ -71,7 +31,7 @@ fn table_of_64(image: &[u8], start: usize, step: usize, n: usize) -> [u16; 64]
     let mut table = [0u16; 64];
     let mut k: usize = 0;
     while k < n {
-        table[k] = pair_at(image, start + step * k);
+        table[k] = bytes::pair_at(image, start + step * k);
         k += 1;
     }
     table
@@ -84,7 +44,7 @@ fn table_of_512(image: &[u8], start: usize, step: usize, n: usize) -> [u16; 512]
     let mut table = [0u16; 512];
     let mut k: usize = 0;
     while k < n {
-        table[k] = pair_at(image, start + step * k);
+        table[k] = bytes::pair_at(image, start + step * k);
         k += 1;
     }
     table
@@ -95,7 +55,7 @@ fn count_at(image: &[u8], place: usize) -> usize
     requires { ⌜ place + 1 < length (now image) ⌝ }
     ensures { λ r. ⌜ (r ≡ two-bytes (now (image .entry)) place) × (r < 65536) ⌝ }
 {
-    wide(pair_at(image, place))
+    bytes::to_index(bytes::pair_at(image, place))
 }
 
 // Where the firing order begins: after the process lengths.
@@ -135,7 +95,7 @@ fn holds_at(image: &[u8], place: usize, wanted: usize) -> bool
     requires { ⌜ place + 3 < length (now image) ⌝ }
     ensures { λ r. ⌜ r ≡ eqb (four-bytes (now (image .entry)) place) wanted ⌝ }
 {
-    let held = wide_quad(quad_at(image, place));
+    let held = bytes::word_to_index(bytes::quad_at(image, place));
     held == wanted
 }
 
@@ -257,11 +217,11 @@ pub fn plan_from(image: &[u8]) -> Plan
     ensures { λ r. ⌜ r ≡ plan-of (now (image .entry)) ⌝ }
 {
     Plan {
-        nodes: pair_at(image, 2),
-        processes: pair_at(image, 4),
-        edges: pair_at(image, 6),
-        counters: pair_at(image, 8),
-        modulus: quad_at(image, 12),
+        nodes: bytes::pair_at(image, 2),
+        processes: bytes::pair_at(image, 4),
+        edges: bytes::pair_at(image, 6),
+        counters: bytes::pair_at(image, 8),
+        modulus: bytes::quad_at(image, 12),
         q: q_of(image),
         lengths: lengths_of(image),
         order: order_of(image),

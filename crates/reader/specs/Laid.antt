@@ -15,7 +15,8 @@ use Rattle.judge.specs.Sound.{Upheld}
 use Rattle.judge.specs.Exactly.{conditions-exactly}
 use Rattle.judge.specs.Decided.{none-applies, none-applies-back}
 use Rattle.plan.specs.Chain.{NoneOf}
-use Rattle.image.specs.Image.{two-bytes, plan-of}
+use Rattle.bytes.specs.LittleEndian.{two-bytes}
+use Rattle.image.specs.Image.{plan-of}
 use Rattle.reader.specs.Faults.{Fault1, Fault2, Fault4, image-order}
 use Rattle.reader.specs.Layout.{Layout}
 use Rattle.reader.specs.HeaderFaults.{test-4, offsets-exactly}

@@ -7,7 +7,8 @@ use lib.ListN.{length}
 use Rattle.loops.specs.Choice.{at}
 use Rattle.plan.specs.Value.{base}
 use Rattle.plan.specs.Faults.{CountsFit, Above}
-use Rattle.image.specs.Image.{two-bytes, plan-of, OffsetsFit}
+use Rattle.bytes.specs.LittleEndian.{two-bytes}
+use Rattle.image.specs.Image.{plan-of, OffsetsFit}
 
 module _ (s : List ℕ) where
   pub record Layout : Type 0 where

@@ -14,7 +14,8 @@ use Rattle.routes.specs.Rows.{total, start, relaxed, round, settled, emptiest-r
 use Rattle.judge.specs.declared.Answer.the-variants.{Accepted, Refused}
 use Rattle.rounds.specs.Lent.{is-edge, is-last, next-position, edge-tokens, has-counter}
 use Rattle.judge.specs.Tests.{bad-position, strays, bad-counter, sends, bad-increment, bad-sum, loop-sum, closes-free, on-free-cycle, no-way-back, not-multiple, not-above-bound, asks, least-modulus, refuse-lowest, refuse-if, from-13, from-9}
-use Rattle.image.specs.Image.{two-bytes, four-bytes, entry, order-start, node-start, edge-start, counter-table, increment-table, plan-of}
+use Rattle.bytes.specs.LittleEndian.{two-bytes, four-bytes}
+use Rattle.image.specs.Image.{entry, order-start, node-start, edge-start, counter-table, increment-table, plan-of}
 use Rattle.image.specs.Image as image
 use Rattle.reader.specs.Tests.{from-6, from-5, verdict}
 use Rattle.image.specs.Header.{good-format, good-offsets, good-later-offsets}

@@ -16,7 +16,8 @@ use Rattle.judge.specs.declared.Answer.{Answer}
 use Rattle.judge.specs.declared.Answer.the-variants.{Refused}
 use Rattle.judge.specs.Tests.{refuse-if}
 use Rattle.reader.specs.declared.Reading.{Reading}
-use Rattle.image.specs.Image.{two-bytes, four-bytes, plan-of}
+use Rattle.bytes.specs.LittleEndian.{two-bytes, four-bytes}
+use Rattle.image.specs.Image.{plan-of}
 use Rattle.reader.specs.HeaderFaults.{offsets-exactly}
 use Rattle.reader.specs.Laid.{q-is}
 use Rattle.image.specs.Room.{Laid}

@@ -5,7 +5,8 @@ use mathlib.Core.List.{List}
 use Prim.Native.Nat.{ℕ, _+_, _*_, _≤_, _<_}
 use Rattle.loops.specs.Choice.{at}
 use Rattle.loops.specs.Table.{padded, padded-at, padded-past}
-use Rattle.image.specs.Image.{two-bytes, entry, order-start, node-start, edge-start, counter-table, increment-table, plan-of}
+use Rattle.bytes.specs.LittleEndian.{two-bytes}
+use Rattle.image.specs.Image.{entry, order-start, node-start, edge-start, counter-table, increment-table, plan-of}
 
 -- a table holds n numbers of the image, one every `step` bytes from `start` on, and 0 past them
 pub record Holds (s : List ℕ) (start step n : ℕ) (table : List ℕ) : Type 0 where

@@ -11,7 +11,7 @@ fn stands_at(order: &[u16; 64], v: usize, i: usize) -> bool
     requires { ⌜ i < 64 ⌝ }
     ensures { λ r. ⌜ r ≡ stands-at (now (order .entry)) v i ⌝ }
 {
-    plan::wide(order[i]) == v
+    bytes::to_index(order[i]) == v
 }
 
 // The order position of a node, or the number of nodes where it has none.
@@ -85,7 +85,11 @@ fn crossing_at<'a>(
     requires { ⌜ (e < 512) × (at (now source) e < 64) × (at (now destination) e < 64) ⌝ }
     ensures { λ r. ⌜ r ≡ crosses (now (homes .entry)) (now (source .entry)) (now (destination .entry)) e ⌝ }
 {
-    if synchronising(homes, plan::wide(source[e]), plan::wide(destination[e])) {
+    if synchronising(
+        homes,
+        bytes::to_index(source[e]),
+        bytes::to_index(destination[e]),
+    ) {
         1
     } else {
         0

@@ -1,11 +1,11 @@
--- `lines::text::put_word` meets its contract. Assumes nothing.
+-- `bytes::text::put_word` meets its contract. Assumes nothing.
 use borrow.Author.Needs.{needs}
 use Prim.Native.Nat.{_+_, _-_, _≤_}
 use mathlib.Core.Path.{_≡_}
 use lib.ListN.{length, take}
-use Rattle.lines.specs.Writing.{Put, put-none, put-next, put-over}
-use Rattle.lines.proofs.text.put_word.Statement.{statement}
-use Rattle.lines.proofs.text.put_word.Tie as tie
+use Rattle.bytes.specs.Writing.{Put, put-none, put-next, put-over}
+use Rattle.bytes.proofs.text.put_word.Statement.{statement}
+use Rattle.bytes.proofs.text.put_word.Tie as tie
 
 abbrev Inv-loop : tie.InvT-loop
 Inv-loop out₀ place word next₀ i₀ out next i = (i ≤ length word) × (length out ≡ length out₀) × (next ≡ place + i) × Put out₀ place (take i word) out next

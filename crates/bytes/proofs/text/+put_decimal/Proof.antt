@@ -1,16 +1,16 @@
--- `lines::text::put_decimal`, which calls itself, meets its contract. The measure is the number. Assumes nothing.
+-- `bytes::text::put_decimal`, which calls itself, meets its contract. The measure is the number. Assumes nothing.
 use borrow.Author.Needs.{needs}
-use Rattle.lines.specs.PutDecimal.{put-digit, put-digits}
+use Rattle.bytes.specs.PutDecimal.{put-digit, put-digits}
 use Prim.Native.Nat.{ℕ, _<_}
 use borrow.Fn.Kinds.{In}
 use borrow.Fn.PlainCycle.{Measures, is, falls, and}
-use Rattle.lines.proofs.text.put_decimal.Reads as put-decimal
-use Rattle.lines.proofs.text.put_decimal.Kinds as put-decimal-kinds
-use Rattle.lines.proofs.text.+put_decimal.Lts-put_decimal as put-decimal-lts
-use Rattle.lines.proofs.text.digit.Reads as digit-reads
-use Rattle.lines.proofs.text.put.Reads as put-reads
-use Rattle.lines.proofs.text.+put_decimal.{statement}
-use Rattle.lines.proofs.text.+put_decimal.Tie.{close}
+use Rattle.bytes.proofs.text.put_decimal.Reads as put-decimal
+use Rattle.bytes.proofs.text.put_decimal.Kinds as put-decimal-kinds
+use Rattle.bytes.proofs.text.+put_decimal.Lts-put_decimal as put-decimal-lts
+use Rattle.bytes.proofs.text.digit.Reads as digit-reads
+use Rattle.bytes.proofs.text.put.Reads as put-reads
+use Rattle.bytes.proofs.text.+put_decimal.{statement}
+use Rattle.bytes.proofs.text.+put_decimal.Tie.{close}
 
 abbrev μ-put-decimal : Measures 1 put-decimal-kinds.ps ℕ
 μ-put-decimal κs a = a .1 .1 .0

@@ -1,10 +1,10 @@
--- `lines::text::put_number` meets its contract. Assumes nothing.
+-- `bytes::text::put_number` meets its contract. Assumes nothing.
 use borrow.Author.Needs.{needs}
 use native.Mathlib.Omega.{arith}
-use Rattle.lines.specs.Lines.{number-then}
-use Rattle.lines.specs.Writing.{put-then}
-use Rattle.lines.proofs.text.put_number.Statement.{statement}
-use Rattle.lines.proofs.text.put_number.Tie as tie
+use Rattle.bytes.specs.Decimal.{number-then}
+use Rattle.bytes.specs.Writing.{put-then}
+use Rattle.bytes.proofs.text.put_number.Statement.{statement}
+use Rattle.bytes.proofs.text.put_number.Tie as tie
 
 returns : tie.Need-returns
 unfolding number-then

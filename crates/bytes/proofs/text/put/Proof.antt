@@ -1,8 +1,8 @@
--- `lines::text::put` meets its contract. Assumes nothing.
+-- `bytes::text::put` meets its contract. Assumes nothing.
 use borrow.Author.Needs.{needs}
-use Rattle.lines.specs.Writing.{put-one, put-past}
-use Rattle.lines.proofs.text.put.Statement.{statement}
-use Rattle.lines.proofs.text.put.Tie as tie
+use Rattle.bytes.specs.Writing.{put-one, put-past}
+use Rattle.bytes.proofs.text.put.Statement.{statement}
+use Rattle.bytes.proofs.text.put.Tie as tie
 
 returns : tie.Need-returns
 returns c = search (needs, put-one, put-past)

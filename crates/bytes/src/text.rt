@@ -3,9 +3,8 @@ ghost use mathlib.Core.Path.{_≡_};
 ghost use mathlib.Core.List.{[], _∷_};
 ghost use Prim.Native.Nat.{_+_, _<_, _≤_};
 ghost use lib.ListN.{length};
-ghost use Rattle.lines.specs.Decimal.{decimal};
-ghost use Rattle.lines.specs.Writing.{Put};
-ghost use Rattle.lines.specs.Lines.{number-then};
+ghost use Rattle.bytes.specs.Decimal.{decimal, number-then};
+ghost use Rattle.bytes.specs.Writing.{Put};
 
 // One byte.
 pub fn put(out: &mut [u8], place: usize, byte: u8) -> usize
@@ -19,9 +18,9 @@ pub fn put(out: &mut [u8], place: usize, byte: u8) -> usize
     place + 1
 }
 
-// A word.
+// A word of at most 512 bytes.
 pub fn put_word(out: &mut [u8], place: usize, word: &[u8]) -> usize
-    requires { ⌜ (place < 3000000) × (length (now word) ≤ 9) ⌝ }
+    requires { ⌜ (place < 3000000) × (length (now word) ≤ 512) ⌝ }
     ensures { λ r. ⌜ Put (now (out .entry)) place (now (word .entry)) (now (out .exit)) r ⌝ }
 {
     let mut next = place;

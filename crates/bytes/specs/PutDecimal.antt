@@ -4,8 +4,8 @@ use mathlib.Core.List.{List, [], _∷_}
 use Prim.Native.Nat.{ℕ, _+_, _/_, _%_, _≤_, _<_}
 use native.Mathlib.Omega.{arith}
 use lib.ListN.{length}
-use Rattle.lines.specs.Decimal.{decimal, decimal-one, decimal-more, few-digits}
-use Rattle.lines.specs.Writing.{Put, put-then, put-same}
+use Rattle.bytes.specs.Decimal.{decimal, decimal-one, decimal-more, few-digits}
+use Rattle.bytes.specs.Writing.{Put, put-then, put-same}
 
 -- a number of 32 bits has at most ten digits
 pub at-most-ten : (n : ℕ) → n < 4294967296 → length (decimal n) ≤ 10

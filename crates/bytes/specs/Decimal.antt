@@ -24,6 +24,10 @@ digits (suc rounds) n = if (ltb n 10) (digit n ∷ []) (digits rounds (n / 10) +
 unfoldable pub decimal : ℕ → List ℕ
 decimal n = digits n n
 
+-- a number and the byte behind it
+unfoldable pub number-then : ℕ → ℕ → List ℕ
+number-then n byte = decimal n ++ (byte ∷ [])
+
 -- the number that digits stand for, read from the left after the number `before`
 unfoldable pub read-on : ℕ → List ℕ → ℕ
 read-on before [] = before
