@@ -22,7 +22,8 @@ use Rattle.plan.specs.Tests.{stands-at, place-of, ends-past, process-at, home-o
 use Rattle.judge.specs.declared.Answer.{Answer}
 use Rattle.judge.specs.declared.Answer.the-variants.{Accepted, Refused}
 use Rattle.bytes.specs.LittleEndian.{two-bytes, four-bytes}
-use Rattle.image.specs.Image.{entry, order-start, node-start, edge-start, counter-table, increment-table, plan-of}
+use Rattle.image.specs.Offsets.{order-start, node-start, edge-start}
+use Rattle.image.specs.Image.{entry, counter-table, increment-table, plan-of}
 use Rattle.reader.specs.Plans.{as-two, as-four, all-as-two, image-of, like-P, edges-of-P, P, P-with-N-3, P-without-3-0, P-with-1-2-repeated, one-node, P-by-twos, P-with-0-0, ring, P-all-ones}
 use Rattle.reader.specs.Tests.{verdict}
 use Rattle.reader.specs.Starred.{starred-plans}
