@@ -4,11 +4,10 @@ use mathlib.Core.Path.{_≡_}
 use mathlib.Core.List.{List}
 use Prim.Native.Nat.{ℕ, _+_, _*_}
 use lib.ListN.{length}
-use Rattle.loops.specs.Sum.{sum}
 use Rattle.loops.specs.Table.{padded}
 use Rattle.bytes.specs.LittleEndian.{two-bytes, four-bytes}
 use Rattle.plan.specs.declared.Plan.{Plan}
-use Rattle.plan.specs.Value.{share}
+use Rattle.plan.specs.Value.{plan-with, counter-sum}
 use Rattle.image.specs.Offsets.{order-start, node-start, edge-start, total}
 
 -- entry k of a table of two-byte numbers at a place, one every `step` bytes
@@ -38,31 +37,34 @@ edges-from s = edge-start (processes-in s) (nodes-in s)
 abbrev pub total-in : List ℕ → ℕ
 total-in s = total (processes-in s) (nodes-in s) (edges-in s)
 
--- the tables of nodes, processes and edges, with 0 past the counts
-unfoldable pub counter-table : List ℕ → List ℕ
-counter-table s = padded (entry s (nodes-from s) 4) 64 (nodes-in s)
-
-unfoldable pub increment-table : List ℕ → List ℕ
-increment-table s = padded (entry s (nodes-from s + 2) 4) 64 (nodes-in s)
-
--- the plan value that the image's numbers give; Q is counter 0's sum
-unfoldable pub plan-of : List ℕ → Plan
-plan-of s =
+-- the plan value that the image's numbers give, its tables with 0 past the counts, before any sum: Q is 0
+unfoldable pub tables-of : List ℕ → Plan
+tables-of s =
     record {
       nodes = nodes-in s;
       processes = processes-in s;
       edges = edges-in s;
       counters = two-bytes s 8;
       modulus = four-bytes s 12;
-      q = sum (share (counter-table s) (increment-table s) 0) (nodes-in s);
+      q = 0;
       lengths = padded (entry s 36 2) 64 (processes-in s);
       order = padded (entry s (order-from s) 2) 64 (nodes-in s);
-      counter = counter-table s;
-      increment = increment-table s;
+      counter = padded (entry s (nodes-from s) 4) 64 (nodes-in s);
+      increment = padded (entry s (nodes-from s + 2) 4) 64 (nodes-in s);
       source = padded (entry s (edges-from s) 6) 512 (edges-in s);
       destination = padded (entry s (edges-from s + 2) 6) 512 (edges-in s);
       tokens = padded (entry s (edges-from s + 4) 6) 512 (edges-in s);
     }
+
+-- a plan value with its Q filled in
+abbrev pub with-q : Plan → ℕ → Plan
+with-q pl q =
+    plan-with (pl .nodes) (pl .processes) (pl .edges) (pl .counters) (pl .modulus) q
+    (pl .lengths) (pl .order) (pl .counter) (pl .increment) (pl .source) (pl .destination) (pl .tokens)
+
+-- the plan value that the image's numbers give; Q is counter 0's sum
+unfoldable pub plan-of : List ℕ → Plan
+plan-of s = with-q (tables-of s) (counter-sum (tables-of s) 0)
 
 -- the offsets and the total are the values that the counts give, and the image is that long
 pub record OffsetsFit (s : List ℕ) : Type 0 where

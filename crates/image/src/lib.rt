@@ -1,11 +1,11 @@
-// A plan image: tests 2 and 4, and the plan value that its numbers give.
+// A plan image: where its tables begin, tests 2 and 4, and the plan value that its numbers give.
 ghost use mathlib.Core.Path.{_≡_};
 ghost use Prim.Native.Nat.{_+_, _<_, _≤_};
 ghost use lib.Dec.{eqb};
 ghost use lib.ListN.{length};
 ghost use Rattle.loops.specs.Table.{padded};
 ghost use Rattle.bytes.specs.LittleEndian.{two-bytes, four-bytes};
-ghost use Rattle.image.specs.Image.{entry, nodes-in, processes-in, edges-in, order-from, nodes-from, edges-from, plan-of};
+ghost use Rattle.image.specs.Image.{entry, nodes-in, processes-in, edges-in, order-from, nodes-from, edges-from, tables-of};
 ghost use Rattle.image.specs.Offsets.{order-start, node-start, edge-start, total};
 ghost use Rattle.image.specs.Room.{Room, Laid};
 ghost use Rattle.image.specs.Header.{good-format, good-offsets, good-later-offsets};
@@ -204,20 +204,10 @@ fn tokens_of(image: &[u8]) -> [u16; 512]
     table_of_512(image, start, 6, n)
 }
 
-// Counter 0's sum.
-fn q_of(image: &[u8]) -> u32
-    requires { ⌜ Laid (now image) ⌝ }
-    ensures { λ r. ⌜ r ≡ plan-of (now (image .entry)) .q ⌝ }
-{
-    let counter = counter_of(image);
-    let increment = increment_of(image);
-    plan::counter_sum(&counter, &increment, count_at(image, 2), 0)
-}
-
-// The plan value that the image's numbers give.
+// The plan value that the image's numbers give, before any sum: its Q is 0.
 pub fn plan_from(image: &[u8]) -> Plan
     requires { ⌜ Laid (now image) ⌝ }
-    ensures { λ r. ⌜ r ≡ plan-of (now (image .entry)) ⌝ }
+    ensures { λ r. ⌜ r ≡ tables-of (now (image .entry)) ⌝ }
 {
     Plan {
         nodes: bytes::pair_at(image, 2),
@@ -225,7 +215,7 @@ pub fn plan_from(image: &[u8]) -> Plan
         edges: bytes::pair_at(image, 6),
         counters: bytes::pair_at(image, 8),
         modulus: bytes::quad_at(image, 12),
-        q: q_of(image),
+        q: 0,
         lengths: lengths_of(image),
         order: order_of(image),
         counter: counter_of(image),

@@ -12,7 +12,7 @@ use Rattle.plan.specs.Chain.{Numbered, NoneOf, decides-lowest, decides-if, deci
 use Rattle.plan.specs.Formed.{Tabled, tabled}
 use Rattle.judge.specs.Tests.{refuse-if, refuse-lowest}
 use Rattle.judge.specs.Decided.{conditions-order, Decided, conditions-decided}
-use Rattle.image.specs.Image.{plan-of}
+use Rattle.image.specs.Image.{tables-of, plan-of}
 use Rattle.image.specs.Header.{good-format, good-offsets}
 use Rattle.reader.specs.Faults.{image-order}
 use Rattle.reader.specs.Tests.{from-6, from-5, verdict}
@@ -41,7 +41,7 @@ module _ (s : List ℕ) where
 
   -- the answer of all tests
   pub outcome : Decided (plan-of s) (image-order s) (verdict s)
-  unfolding verdict refuse-if image-order plan-of
+  unfolding verdict refuse-if image-order tables-of plan-of
   outcome =
       decides-if _ _ _ _ 1 _ _ (ltb (length s) 36) _ (test-1 s) (λ n1.
       decides-unless _ _ _ _ 2 _ _ (good-format s) _ (test-2 s) (λ n2.

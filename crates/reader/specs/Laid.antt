@@ -16,7 +16,7 @@ use Rattle.judge.specs.Exactly.{conditions-exactly}
 use Rattle.judge.specs.Decided.{none-applies, none-applies-back}
 use Rattle.plan.specs.Chain.{NoneOf}
 use Rattle.bytes.specs.LittleEndian.{two-bytes}
-use Rattle.image.specs.Image.{plan-of}
+use Rattle.image.specs.Image.{tables-of, plan-of}
 use Rattle.reader.specs.Faults.{Fault1, Fault2, Fault4, image-order}
 use Rattle.reader.specs.Layout.{Layout}
 use Rattle.reader.specs.HeaderFaults.{test-4, offsets-exactly}
@@ -106,7 +106,7 @@ module _ (s : List ℕ) where
 
   -- the plan value's Q is counter 0's sum
   pub q-is : plan-of s .q ≡ counter-sum (plan-of s) 0
-  unfolding plan-of counter-sum
+  unfolding tables-of plan-of counter-sum
   q-is = refl
 
   -- where that is at least 1 the plan value is in shape

@@ -16,7 +16,7 @@ use Rattle.rounds.specs.Lent.{is-edge, is-last, next-position, edge-tokens, has
 use Rattle.judge.specs.Tests.{bad-position, strays, bad-counter, sends, bad-increment, bad-sum, loop-sum, closes-free, on-free-cycle, no-way-back, not-multiple, not-above-bound, asks, least-modulus, refuse-lowest, refuse-if, from-13, from-9}
 use Rattle.bytes.specs.LittleEndian.{two-bytes, four-bytes}
 use Rattle.image.specs.Offsets.{order-start, node-start, edge-start}
-use Rattle.image.specs.Image.{entry, counter-table, increment-table, plan-of}
+use Rattle.image.specs.Image.{entry, tables-of, plan-of}
 use Rattle.image.specs.Offsets as offsets
 use Rattle.reader.specs.Tests.{from-6, from-5, verdict}
 use Rattle.image.specs.Header.{good-format, good-offsets, good-later-offsets}
@@ -27,5 +27,5 @@ pub starred-plans :
     P ∷ P-with-N-3 ∷ P-without-3-0 ∷ P-with-1-2-repeated ∷ one-node 1 ∷ one-node 0 ∷ P-by-twos 7 ∷ P-by-twos 6 ∷ P-with-0-0 ∷ ring 3 ∷ ring 4 ∷ P-all-ones ∷ []
     ) ≡ Accepted 1 4 4 ∷ Refused 16 2 ∷ Refused 14 2 ∷ Refused 8 3 ∷ Accepted 1 1 1 ∷ Refused 12 0 ∷ Refused 15 0 ∷ Refused 16 2 ∷ Refused 13 0 ∷ Refused 16 1
     ∷ Accepted 1 4 4 ∷ Accepted 2 8 8 ∷ []
-unfolding as-two as-four all-as-two image-of like-P edges-of-P P P-with-N-3 P-without-3-0 P-with-1-2-repeated one-node P-by-twos P-with-0-0 ring P-all-ones if both either one-if first firstOf any anyOf sum fold entries padded base share counter-sum edge-sum outside bad-counts zero-length same-entry bad-order bad-node not-above not-rising bad-edge stands-at place-of ends-past process-at home-of home synchronises total start relaxed round settled emptiest-row is-edge is-last next-position edge-tokens bad-position has-counter strays bad-counter sends bad-increment bad-sum loop-sum closes-free on-free-cycle no-way-back not-multiple not-above-bound asks least-modulus refuse-lowest refuse-if from-13 from-9 two-bytes four-bytes entry order-start node-start edge-start offsets.total counter-table increment-table plan-of good-format good-offsets good-later-offsets from-6 from-5 verdict
+unfolding as-two as-four all-as-two image-of like-P edges-of-P P P-with-N-3 P-without-3-0 P-with-1-2-repeated one-node P-by-twos P-with-0-0 ring P-all-ones if both either one-if first firstOf any anyOf sum fold entries padded base share counter-sum edge-sum outside bad-counts zero-length same-entry bad-order bad-node not-above not-rising bad-edge stands-at place-of ends-past process-at home-of home synchronises total start relaxed round settled emptiest-row is-edge is-last next-position edge-tokens bad-position has-counter strays bad-counter sends bad-increment bad-sum loop-sum closes-free on-free-cycle no-way-back not-multiple not-above-bound asks least-modulus refuse-lowest refuse-if from-13 from-9 two-bytes four-bytes entry order-start node-start edge-start offsets.total tables-of plan-of good-format good-offsets good-later-offsets from-6 from-5 verdict
 starred-plans = refl

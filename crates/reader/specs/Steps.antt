@@ -7,8 +7,9 @@ use Prim.Native.Nat.{ℕ, _≤_, _<_}
 use lib.ListN.{length}
 use borrow.Author.Tests.{lt-ltb, le-ltb}
 use Rattle.loops.specs.Choice.{if-true, if-false}
+use Rattle.loops.specs.Sum.{sum}
 use Rattle.plan.specs.declared.Plan.{Plan}
-use Rattle.plan.specs.Value.{counter-sum}
+use Rattle.plan.specs.Value.{share, counter-sum}
 use Rattle.plan.specs.Faults.{CountsFit}
 use Rattle.plan.specs.Passed.{counts-fit}
 use Rattle.plan.specs.Tests.{bad-counts}
@@ -17,7 +18,7 @@ use Rattle.judge.specs.declared.Answer.the-variants.{Refused}
 use Rattle.judge.specs.Tests.{refuse-if}
 use Rattle.reader.specs.declared.Reading.{Reading}
 use Rattle.bytes.specs.LittleEndian.{two-bytes, four-bytes}
-use Rattle.image.specs.Image.{plan-of}
+use Rattle.image.specs.Image.{tables-of, with-q, plan-of}
 use Rattle.reader.specs.HeaderFaults.{offsets-exactly}
 use Rattle.reader.specs.Laid.{q-is}
 use Rattle.image.specs.Room.{Laid}
@@ -69,7 +70,7 @@ module _ (s : List ℕ) where
 
   -- what building the plan value needs of an image that has passed 1 to 4
   pub laid-of : 36 ≤ length s → counts-bad ≡ false → good-offsets s ≡ true → Laid s
-  unfolding plan-of
+  unfolding tables-of plan-of
   laid-of h b o =
       let k : CountsFit (plan-of s) = counts-fit (plan-of s) b in
       record {
@@ -80,10 +81,24 @@ module _ (s : List ℕ) where
         header = h;
       }
 
+  -- what working out its Q needs of the tables, and the plan value with that Q
+  pub tables-few : Laid s → (pl : Plan) → pl ≡ tables-of s → pl .nodes ≤ 64
+  unfolding tables-of
+  tables-few l pl e = subst (λ x. x .nodes ≤ 64) (sym e) (l .nodes-most)
+
+  pub filled : (r pl : Plan) → r ≡ with-q pl (counter-sum pl 0) → pl ≡ tables-of s → r ≡ plan-of s
+  unfolding plan-of
+  filled r pl f e = f ∙ ap (λ x. with-q x (counter-sum x 0)) e
+
   -- and what the tests from 5 on need of it
   pub counted-of : counts-bad ≡ false → (pl : Plan) → pl ≡ plan-of s → CountsFit pl × (pl .q ≡ counter-sum pl 0)
-  unfolding plan-of
+  unfolding tables-of plan-of
   counted-of b pl e = subst (λ x. CountsFit x × (x .q ≡ counter-sum x 0)) (sym e) (counts-fit (plan-of s) b, q-is s)
+
+-- a plan value with counter 0's sum, worked out over as many nodes as it has
+pub summed : (pl : Plan) (q n : ℕ) → q ≡ sum (share (pl .counter) (pl .increment) 0) n → n ≡ pl .nodes → with-q pl q ≡ with-q pl (counter-sum pl 0)
+unfolding counter-sum
+summed pl q n a b = ap (with-q pl) (a ∙ ap (sum (share (pl .counter) (pl .increment) 0)) b)
 
 -- the counts' test of numbers that are known by other names
 pub counts-are : {a b c d e a′ b′ c′ d′ e′ : ℕ} {r t : Bool} → r ≡ bad-counts a b c d e → a ≡ a′ → b ≡ b′ → c ≡ c′ → d ≡ d′ → e ≡ e′ → r ≡ t

@@ -6,7 +6,7 @@ use Prim.Native.Nat.{ℕ, _+_, _*_, _≤_, _<_}
 use Rattle.loops.specs.Choice.{at}
 use Rattle.loops.specs.Table.{padded, padded-at, padded-past}
 use Rattle.bytes.specs.LittleEndian.{two-bytes}
-use Rattle.image.specs.Image.{entry, nodes-in, processes-in, edges-in, order-from, nodes-from, edges-from, counter-table, increment-table, plan-of}
+use Rattle.image.specs.Image.{entry, nodes-in, processes-in, edges-in, order-from, nodes-from, edges-from, tables-of, plan-of}
 
 -- a table holds n numbers of the image, one every `step` bytes from `start` on, and 0 past them
 pub record Holds (s : List ℕ) (start step n : ℕ) (table : List ℕ) : Type 0 where
@@ -28,7 +28,7 @@ module _ (s : List ℕ) where
     pub tokens : Holds s (edges-from s + 4) 6 (edges-in s) (plan-of s .tokens)
 
   pub tables-hold : TablesHold
-  unfolding plan-of counter-table increment-table
+  unfolding tables-of plan-of
   tables-hold =
       record {
         lengths = holds s 36 2 64 (processes-in s);

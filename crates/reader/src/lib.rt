@@ -7,6 +7,7 @@ ghost use Rattle.plan.specs.Value.{counter-sum};
 ghost use Rattle.plan.specs.Faults.{CountsFit, Fault5};
 ghost use Rattle.plan.specs.Passed.{Passes};
 ghost use Rattle.image.specs.Header.{good-format};
+ghost use Rattle.image.specs.Image.{with-q};
 ghost use Rattle.reader.specs.Tests.{from-5, from-6, no-plan, reading-of};
 ghost use Rattle.reader.specs.Steps.{with-plan, refusal-of};
 use judge::Answer;
@@ -136,6 +137,18 @@ pub fn read(image: &[u8]) -> Reading
     refusal(2)
 }
 
+// A plan value with counter 0's sum for its Q.
+fn with_sum(tables: Plan) -> Plan
+    requires { ⌜ tables .nodes ≤ 64 ⌝ }
+    ensures { λ r. ⌜ r ≡ with-q tables (counter-sum tables 0) ⌝ }
+{
+    let counter = tables.counter;
+    let increment = tables.increment;
+    let mut plan = tables;
+    plan.q = plan::counter_sum(&counter, &increment, bytes::to_index(tables.nodes), 0);
+    plan
+}
+
 // Test 3, and what comes after it.
 fn read_counted(image: &[u8]) -> Reading
     requires { ⌜ (36 ≤ length (now image)) × (good-format (now image) ≡ true) ⌝ }
@@ -152,7 +165,7 @@ fn read_counted(image: &[u8]) -> Reading
         return refusal(3);
     }
     if image::offsets_fit(image) {
-        let plan = image::plan_from(image);
+        let plan = with_sum(image::plan_from(image));
         return beside(judged_from_5(plan), plan);
     }
     refusal(4)
