@@ -3,7 +3,7 @@
 // A read or a write that fails ends the stream and is told in one line on standard error.
 // The stored stream is what second/stored.c writes, and the stored answers are those of second/stream.c to it (second/README.md).
 ghost use mathlib.Core.Path.{_≡_};
-ghost use Prim.Native.Nat.{_≤_, _<_};
+ghost use Prim.Native.Nat.{_≤_};
 ghost use lib.ListN.{length};
 use streams::Got;
 use transcript::Printed;
@@ -76,18 +76,6 @@ fn print_text(input: &[u8]) -> bool {
     print(&out[..length])
 }
 
-// A byte of a length.
-fn wide(byte: u8) -> usize
-    ensures { λ r. ⌜ r < 256 ⌝ }
-{
-    byte as usize
-}
-
-// The number of four bytes, the lower byte first.
-fn number_in(bytes: &[u8; 4]) -> usize {
-    wide(bytes[0]) + 256 * wide(bytes[1]) + 65536 * wide(bytes[2]) + 16777216 * wide(bytes[3])
-}
-
 // The length of the next case. A stream that is cut in it has come to its end.
 fn next_case() -> Next {
     let mut bytes = [0u8; 4];
@@ -96,7 +84,7 @@ fn next_case() -> Next {
         return Next::End;
     }
     Next::Case {
-        length: number_in(&bytes),
+        length: bytes::word_to_index(bytes::quad_at(&bytes, 0)),
     }
 }
 

@@ -1,5 +1,5 @@
 // Loop sums, tests 13, 14 and 16 over them, and the least modulus.
-use plan::wide;
+use bytes::to_index;
 use routes::NO_ROUTE;
 ghost use mathlib.Core.Path.{_≡_};
 ghost use Prim.Native.Nat.{_+_, _*_, _<_, _≤_, max};
@@ -31,7 +31,7 @@ fn through_at<'a>(
     requires { ⌜ (e < 512) × (at (now source) e < 64) × Low (now row) ⌝ }
     ensures { λ r. ⌜ r ≡ at (now (tokens .entry)) e + at (now (row .entry)) (at (now (source .entry)) e) ⌝ }
 {
-    let s = wide(source[e]);
+    let s = to_index(source[e]);
     joined(tokens[e], row[s])
 }
 
@@ -39,7 +39,7 @@ fn through_at<'a>(
 fn entry_of(destination: u16, v: usize, through: u32, entry: u32) -> u32
     ensures { λ r. ⌜ r ≡ if (eqb destination v) through entry ⌝ }
 {
-    if wide(destination) == v {
+    if to_index(destination) == v {
         through
     } else {
         entry
@@ -116,7 +116,7 @@ fn closes_free_at<'a>(destination: &'a [u16; 512], sums: &'a [u32; 512], v: usiz
     requires { ⌜ e < 512 ⌝ }
     ensures { λ r. ⌜ r ≡ closes-free-in (now (destination .entry)) (now (sums .entry)) v e ⌝ }
 {
-    if wide(destination[e]) == v {
+    if to_index(destination[e]) == v {
         is_free_at(sums, e)
     } else {
         false

@@ -22,7 +22,9 @@ use Rattle.plan.specs.Value.{base, node-at, share, counter-sum, edge-sum}
 use Rattle.plan.specs.Tests.{stands-at, place-of, ends-past, process-at, home-of, home, seat, synchronises}
 use Rattle.judge.specs.declared.Answer.{Answer}
 use Rattle.judge.specs.declared.Answer.the-variants.{Accepted, Refused}
-use Rattle.image.specs.Image.{two-bytes, four-bytes, entry, order-start, node-start, edge-start, counter-table, increment-table, plan-of}
+use Rattle.bytes.specs.LittleEndian.{two-bytes, four-bytes}
+use Rattle.image.specs.Offsets.{order-start, node-start, edge-start}
+use Rattle.image.specs.Image.{entry, tables-of, plan-of}
 use Rattle.reader.specs.Plans.{as-two, as-four, all-as-two, image-of, like-P, edges-of-P, P, P-with-N-3, P-without-3-0, P-with-1-2-repeated, one-node, P-by-twos, P-with-0-0, ring, P-all-ones}
 use Rattle.reader.specs.Tests.{verdict}
 use Rattle.reader.specs.Starred.{starred-plans}
@@ -99,7 +101,7 @@ P-accepted = ap (λ l. answer-at l 0) starred-plans
 
 -- "fresh, open 1, look 1,2 waits"
 all-ones-run : answers-in-shape (plan-of P-all-ones) fresh (open-call 1 ∷ look-call 1 2 ∷ []) ≡ reply.Opened 1 ∷ reply.Wait 1 ∷ []
-unfolding answers-in-shape if both either one-if first firstOf any anyOf sum stored entries padded rounded-up minus-modulo finds base node-at share counter-sum edge-sum stands-at place-of ends-past process-at home-of home seat synchronises two-bytes four-bytes entry order-start node-start edge-start counter-table increment-table plan-of as-two as-four all-as-two image-of like-P edges-of-P P P-all-ones spot mark next-node fresh earlier b-of edge-found raised to-see marks-left opened-state do-open with-marks found-state do-look next-position fired-state do-fire refused open-in-shape marked look-in-shape fire-in-shape step-in-shape
+unfolding answers-in-shape if both either one-if first firstOf any anyOf sum stored entries padded rounded-up minus-modulo finds base node-at share counter-sum edge-sum stands-at place-of ends-past process-at home-of home seat synchronises two-bytes four-bytes entry order-start node-start edge-start tables-of plan-of as-two as-four all-as-two image-of like-P edges-of-P P P-all-ones spot mark next-node fresh earlier b-of edge-found raised to-see marks-left opened-state do-open with-marks found-state do-look next-position fired-state do-fire refused open-in-shape marked look-in-shape fire-in-shape step-in-shape
 all-ones-run = refl
 
 -- "b(1) is 7 and rounds to 8"
@@ -111,7 +113,7 @@ all-ones-b = (refl, refl)
 P-run : answers-in-shape (plan-of P) fresh
     (open-call 0 ∷ look-call 0 4 ∷ fire-call 0 ∷ open-call 0 ∷ fire-call 0 ∷ open-call 1 ∷ look-call 1 2 ∷ look-call 1 2 ∷ fire-call 1 ∷ [])
     ≡ reply.Opened 1 ∷ reply.Found 0 ∷ reply.Fired 0 ∷ reply.Opened 0 ∷ reply.Fired 1 ∷ reply.Opened 1 ∷ reply.Found 0 ∷ reply.Refused 23 ∷ reply.Fired 2 ∷ []
-unfolding answers-in-shape if both either one-if first firstOf any anyOf sum stored entries padded rounded-up minus-modulo finds base node-at share counter-sum edge-sum stands-at place-of ends-past process-at home-of home seat synchronises two-bytes four-bytes entry order-start node-start edge-start counter-table increment-table plan-of as-two as-four all-as-two image-of like-P edges-of-P P P-all-ones spot mark next-node fresh earlier b-of edge-found raised to-see marks-left opened-state do-open with-marks found-state do-look next-position fired-state do-fire refused open-in-shape marked look-in-shape fire-in-shape step-in-shape
+unfolding answers-in-shape if both either one-if first firstOf any anyOf sum stored entries padded rounded-up minus-modulo finds base node-at share counter-sum edge-sum stands-at place-of ends-past process-at home-of home seat synchronises two-bytes four-bytes entry order-start node-start edge-start tables-of plan-of as-two as-four all-as-two image-of like-P edges-of-P P P-all-ones spot mark next-node fresh earlier b-of edge-found raised to-see marks-left opened-state do-open with-marks found-state do-look next-position fired-state do-fire refused open-in-shape marked look-in-shape fire-in-shape step-in-shape
 P-run = refl
 
 run-from : (s : List ℕ) (q n m : ℕ) → verdict s ≡ Accepted q n m → (cs : List Call)

@@ -71,7 +71,7 @@ pub fn first_bad_order(order: &[u16; 64], nodes: usize) -> usize
     let mut seen: [u8; 64] = [0; 64];
     let mut i: usize = 0;
     while i < nodes {
-        let v = plan::wide(order[i]);
+        let v = bytes::to_index(order[i]);
         if nodes <= v {
             return i;
         }
@@ -94,7 +94,7 @@ fn bad_node_at<'a>(
     requires { ⌜ v < 64 ⌝ }
     ensures { λ r. ⌜ r ≡ bad-node (now (counter .entry)) (now (increment .entry)) counters v ⌝ }
 {
-    if counters <= plan::wide(counter[v]) {
+    if counters <= bytes::to_index(counter[v]) {
         true
     } else {
         255 < increment[v]
@@ -154,10 +154,10 @@ fn bad_edge_at<'a>(
     requires { ⌜ e < 512 ⌝ }
     ensures { λ r. ⌜ r ≡ bad-edge (now (source .entry)) (now (destination .entry)) (now (tokens .entry)) nodes e ⌝ }
 {
-    if nodes <= plan::wide(source[e]) {
+    if nodes <= bytes::to_index(source[e]) {
         return true;
     }
-    if nodes <= plan::wide(destination[e]) {
+    if nodes <= bytes::to_index(destination[e]) {
         return true;
     }
     if 1000 < tokens[e] {

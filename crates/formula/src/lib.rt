@@ -17,7 +17,7 @@ fn share_at<'a>(
     requires { ⌜ (i < 64) × (at (now order) i < 64) ⌝ }
     ensures { λ r. ⌜ r ≡ share (now (counter .entry)) (now (increment .entry)) c (at (now (order .entry)) i) ⌝ }
 {
-    let v = plan::wide(order[i]);
+    let v = bytes::to_index(order[i]);
     if counter[v] == c { increment[v] } else { 0 }
 }
 
@@ -101,7 +101,7 @@ pub fn b_of<'a>(
     ensures { λ r. ⌜ (r ≡ b-in (now (order .entry)) (now (lengths .entry)) (now (counter .entry)) (now (increment .entry)) (now (counters .entry)) nodes processes modulus x) × (r < modulus) ⌝ }
 {
     let taken = earlier(order, lengths, counter, increment, nodes, processes, x);
-    minus_modulo(modulus, counters[plan::wide(counter[x])], taken)
+    minus_modulo(modulus, counters[bytes::to_index(counter[x])], taken)
 }
 
 // Found: rounded b(n) minus rounded b(m), modulo N, differs from Q times the starting tokens, modulo N.
@@ -131,6 +131,6 @@ pub fn raise<'a>(
     requires { ⌜ RaiseOk (now counter) (now increment) (now counters) modulus v ⌝ }
     ensures { λ r. ⌜ now (counters .exit) ≡ raised-in (now (counter .entry)) (now (increment .entry)) (now (counters .entry)) modulus v ⌝ }
 {
-    let c = plan::wide(counter[v]);
-    counters[c] = plus_modulo(modulus, counters[c], plan::short(increment[v]));
+    let c = bytes::to_index(counter[v]);
+    counters[c] = plus_modulo(modulus, counters[c], bytes::to_word(increment[v]));
 }

@@ -7,7 +7,7 @@ use mathlib.Core.List.{List}
 use Prim.Native.Nat.{ℕ, _+_, _*_, _≤_, _<_}
 use lib.ListN.{length}
 use Rattle.plan.specs.declared.Plan.{Plan}
-use Rattle.image.specs.Image.{two-bytes, total}
+use Rattle.image.specs.Image.{nodes-in, processes-in, edges-in, total-in}
 
 -- n numbers of two bytes, one every `step` bytes from `start` on, lie within the image
 abbrev pub Room : List ℕ → ℕ → ℕ → ℕ → Type 0
@@ -15,10 +15,10 @@ Room s start step n = (k : ℕ) → k < n → start + step * k + 1 < length s
 
 -- the counts fit the tables of a plan value, and the image is as long as its counts say
 pub record Laid (s : List ℕ) : Type 0 where
-  pub nodes-most : two-bytes s 2 ≤ 64
-  pub processes-most : two-bytes s 4 ≤ 64
-  pub edges-most : two-bytes s 6 ≤ 512
-  pub length-is : length s ≡ total s
+  pub nodes-most : nodes-in s ≤ 64
+  pub processes-most : processes-in s ≤ 64
+  pub edges-most : edges-in s ≤ 512
+  pub length-is : length s ≡ total-in s
   pub header : 36 ≤ length s
 
 -- a test of two joined ones: the first fails, or the second decides

@@ -1,7 +1,3 @@
--- what a reader must believe: numbers in decimal, the words, the lines
-pub mod Decimal
+-- what a reader must believe: the words, the lines
 pub mod Words
 pub mod Lines
--- bytes put at a place of a buffer
-pub mod Writing
-pub mod PutDecimal

@@ -1,17 +1,13 @@
 -- The lines of the text that `planrun` prints (01, "The program"), to the last byte. Definitions only.
 -- Assumes nothing.
-use mathlib.Core.List.{List, [], _∷_, _++_}
+use mathlib.Core.List.{List, [], _++_}
 use Prim.Native.Nat.{ℕ}
 use Rattle.judge.specs.declared.Answer.{Answer}
 use Rattle.judge.specs.declared.Answer.the-variants as answers
 use Rattle.machine.specs.declared.Reply.{Reply}
 use Rattle.machine.specs.declared.Reply.the-variants as replied
-use Rattle.lines.specs.Decimal.{decimal}
+use Rattle.bytes.specs.Decimal.{decimal, number-then}
 use Rattle.lines.specs.Words.{blank, newline, plan-word, refused-word, opened-word, found-word, wait-word, fired-word, turned-down-word}
-
--- a number and the byte behind it
-unfoldable pub number-then : ℕ → ℕ → List ℕ
-number-then n byte = decimal n ++ (byte ∷ [])
 
 -- ---- the first line
 -- "First line: `plan` Q N least"

@@ -1,18 +1,16 @@
 // The lines of the text: the first line, and a line for each call.
-ghost use mathlib.Core.Path.{_≡_};
 ghost use mathlib.Core.List.{_++_};
 ghost use Prim.Native.Nat.{_+_, _<_, _≤_};
 ghost use lib.ListN.{length};
 ghost use Rattle.lines.specs.Words.{newline};
-ghost use Rattle.lines.specs.Lines.{number-then, plan-line, refused-line, refusal-text, said, line};
-ghost use Rattle.lines.specs.Writing.{Put};
+ghost use Rattle.lines.specs.Lines.{plan-line, refused-line, refusal-text, said, line};
+ghost use Rattle.bytes.specs.Decimal.{number-then};
+ghost use Rattle.bytes.specs.Writing.{Put};
+use bytes::text::put_decimal;
+use bytes::text::put_number;
+use bytes::text::put_word;
 use judge::Answer;
 use machine::Reply;
-use text::put_decimal;
-use text::put_number;
-use text::put_word;
-
-pub mod text;
 
 // First line: `plan` Q N least.
 pub fn put_plan_line(out: &mut [u8], q: u32, modulus: u32, least: u32) -> usize

@@ -23,20 +23,6 @@ pub struct Plan {
     pub tokens: [u16; 512],
 }
 
-// A table's number, wide enough to index with.
-pub fn wide(x: u16) -> usize
-    ensures { λ r. ⌜ r ≡ x ⌝ }
-{
-    x as usize
-}
-
-// A table's number, wide enough to add up with.
-pub fn short(x: u16) -> u32
-    ensures { λ r. ⌜ r ≡ x ⌝ }
-{
-    x as u32
-}
-
 // The length of a process.
 fn length_at(lengths: &[u16; 64], p: usize) -> u16
     requires { ⌜ p < 64 ⌝ }
@@ -64,7 +50,7 @@ fn share_of<'a>(counter: &'a [u16; 64], increment: &'a [u16; 64], c: usize, v: u
     requires { ⌜ v < 64 ⌝ }
     ensures { λ r. ⌜ r ≡ share (now (counter .entry)) (now (increment .entry)) c v ⌝ }
 {
-    if wide(counter[v]) == c {
+    if bytes::to_index(counter[v]) == c {
         increment[v]
     } else {
         0

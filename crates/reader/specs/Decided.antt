@@ -16,7 +16,8 @@ use Rattle.plan.specs.Tests.{refuse-if}
 use Rattle.judge.specs.Faults.{plan-order}
 use Rattle.judge.specs.Sound.{Upheld}
 use Rattle.judge.specs.Decided.{Decided, decided-from-5, clean-exactly, each-number}
-use Rattle.image.specs.Image.{two-bytes, plan-of}
+use Rattle.bytes.specs.LittleEndian.{two-bytes}
+use Rattle.image.specs.Image.{tables-of, plan-of}
 use Rattle.image.specs.Header.{good-format, good-offsets}
 use Rattle.reader.specs.Faults.{Fault1, Fault2, Fault4, image-order}
 use Rattle.reader.specs.Layout.{Layout}
@@ -26,7 +27,7 @@ use Rattle.reader.specs.HeaderFaults.{test-1, test-2, test-4, offsets-ex
 module _ (s : List ℕ) where
   -- the answer of all tests
   pub outcome : Decided (plan-of s) (image-order s) (verdict s)
-  unfolding verdict refuse-if image-order plan-of
+  unfolding verdict refuse-if image-order tables-of plan-of
   outcome =
       decides-if _ _ _ _ 1 _ _ (ltb (length s) 36) _ (test-1 s) (λ n1.
       decides-unless _ _ _ _ 2 _ _ (good-format s) _ (test-2 s) (λ n2.

@@ -8,7 +8,8 @@ use lib.ListN.{length}
 use Rattle.plan.specs.Faults.{Fault3}
 use Rattle.plan.specs.Order.{Numbered}
 use Rattle.judge.specs.Faults.{order-from-5}
-use Rattle.image.specs.Image.{two-bytes, plan-of, OffsetsFit}
+use Rattle.bytes.specs.LittleEndian.{two-bytes}
+use Rattle.image.specs.Image.{plan-of, OffsetsFit}
 
 module _ (s : List ℕ) where
   -- 1: "fewer than 36 bytes", place 0

@@ -10,7 +10,8 @@ use lib.Dec.{eqb, ltb}
 use lib.ListN.{length}
 use borrow.Author.Tests.{ltb-true, lt-ltb, eqb-true, eq-eqb}
 use Rattle.loops.specs.Choice.{both, both-true, both-intro, true-false, not-true}
-use Rattle.image.specs.Image.{two-bytes, OffsetsFit}
+use Rattle.bytes.specs.LittleEndian.{two-bytes}
+use Rattle.image.specs.Image.{OffsetsFit}
 use Rattle.reader.specs.Faults.{Fault1, Fault2, Fault4}
 use Rattle.image.specs.Header.{good-format, good-offsets, good-later-offsets}
 

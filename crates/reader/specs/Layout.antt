@@ -5,7 +5,8 @@ use mathlib.Core.List.{List}
 use Prim.Native.Nat.{ℕ, _≤_}
 use lib.ListN.{length}
 use Rattle.plan.specs.Tables.{Tabled}
-use Rattle.image.specs.Image.{two-bytes, plan-of, OffsetsFit}
+use Rattle.bytes.specs.LittleEndian.{two-bytes}
+use Rattle.image.specs.Image.{plan-of, OffsetsFit}
 
 pub record Layout (s : List ℕ) : Type 0 where
   -- "The header has 36 bytes: format number 1 at 0, … zero at 10"

@@ -18,7 +18,8 @@ use Rattle.plan.specs.Tests.{refuse-if}
 use Rattle.judge.specs.Tests.{from-5}
 use Rattle.judge.specs.Decided.{from-5-numbers, without-q}
 use Rattle.reader.specs.declared.Reading.{Reading}
-use Rattle.image.specs.Image.{two-bytes, four-bytes, plan-of}
+use Rattle.bytes.specs.LittleEndian.{two-bytes, four-bytes}
+use Rattle.image.specs.Image.{tables-of, plan-of}
 use Rattle.reader.specs.HeaderFaults.{offsets-exactly}
 use Rattle.reader.specs.Theorems.{q-is}
 use Rattle.image.specs.Room.{Laid}
@@ -73,7 +74,7 @@ module _ (s : List ℕ) where
   -- the answer of the tests from 5 on, with the plan that it accepts
   pub goes-on : (pl : Plan) → 36 ≤ length s → good-format s ≡ true → counts-bad ≡ false → good-offsets s ≡ true → with-q pl (plan-of s .q) ≡ plan-of s
       → with-plan (from-5 (plan-of s)) pl ≡ reading-of s
-  unfolding verdict refuse-if with-plan reading-of plan-of
+  unfolding verdict refuse-if with-plan reading-of tables-of plan-of
   goes-on pl h f b o same =
       let e : verdict s ≡ from-5 (plan-of s) = if-false _ _ _ (le-ltb _ _ h) ∙ if-true _ _ _ f ∙ if-false _ _ _ b ∙ if-true _ _ _ o in
       let n3 = passes-3 (plan-of s) .0 b in
@@ -83,7 +84,7 @@ module _ (s : List ℕ) where
 
   -- what building the plan value needs of an image that has passed 1 to 4
   pub laid-of : 36 ≤ length s → counts-bad ≡ false → good-offsets s ≡ true → Laid s
-  unfolding plan-of
+  unfolding tables-of plan-of
   laid-of h b o =
       let k : CountsFit (plan-of s) = counts-fit (plan-of s) b in
       record {
@@ -96,7 +97,7 @@ module _ (s : List ℕ) where
 
   -- and what the tests from 5 on need of it, which do not look at its Q
   pub counted-of : counts-bad ≡ false → (pl : Plan) → with-q pl (plan-of s .q) ≡ plan-of s → CountsFit (with-q pl 0)
-  unfolding plan-of
+  unfolding tables-of plan-of
   counted-of b pl e = let k = subst CountsFit (sym e) (counts-fit (plan-of s) b) in record {
     nodes-some = k .nodes-some;
     nodes-most = k .nodes-most;

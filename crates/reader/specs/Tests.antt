@@ -12,7 +12,8 @@ use Rattle.judge.specs.declared.Answer.{Answer}
 use Rattle.judge.specs.declared.Answer.the-variants.{Accepted, Refused}
 use Rattle.judge.specs.Tests.{from-5}
 use Rattle.reader.specs.declared.Reading.{Reading}
-use Rattle.image.specs.Image.{two-bytes, four-bytes, plan-of}
+use Rattle.bytes.specs.LittleEndian.{two-bytes, four-bytes}
+use Rattle.image.specs.Image.{plan-of}
 use Rattle.image.specs.Header.{good-format, good-offsets}
 
 -- all tests of an image

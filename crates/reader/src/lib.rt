@@ -85,11 +85,11 @@ fn read_counted(image: &[u8]) -> Reading
     ensures { λ r. ⌜ r ≡ reading-of (now (image .entry)) ⌝ }
 {
     let counts = entries::counts_bad(
-        image::pair_at(image, 2),
-        image::pair_at(image, 4),
-        image::pair_at(image, 6),
-        image::pair_at(image, 8),
-        image::quad_at(image, 12),
+        bytes::pair_at(image, 2),
+        bytes::pair_at(image, 4),
+        bytes::pair_at(image, 6),
+        bytes::pair_at(image, 8),
+        bytes::quad_at(image, 12),
     );
     if counts {
         return refusal(3);

@@ -8,7 +8,7 @@ fn is_marked(marks: &[u8; 32768], edges: u16, p: usize, edge: u32) -> bool
     requires { ⌜ (p < 64) × (edges ≤ 512) ⌝ }
     ensures { λ r. ⌜ r ≡ marked-in (now (marks .entry)) edges p edge ⌝ }
 {
-    if plan::short(edges) <= edge {
+    if bytes::to_word(edges) <= edge {
         return false;
     }
     marks[512 * p + edge as usize] == 1
@@ -19,7 +19,7 @@ pub fn of_open(processes: u16, opened: &[u8; 64], process: u32) -> u32
     requires { ⌜ processes ≤ 64 ⌝ }
     ensures { λ r. ⌜ r ≡ open-number processes (now (opened .entry)) process ⌝ }
 {
-    if plan::short(processes) <= process {
+    if bytes::to_word(processes) <= process {
         return 20;
     }
     if opened[process as usize] == 0 { 0 } else { 21 }
@@ -37,7 +37,7 @@ pub fn of_look<'a>(
     requires { ⌜ (processes ≤ 64) × (edges ≤ 512) ⌝ }
     ensures { λ r. ⌜ r ≡ look-number processes edges (now (opened .entry)) (now (marks .entry)) process edge ⌝ }
 {
-    if plan::short(processes) <= process {
+    if bytes::to_word(processes) <= process {
         return 20;
     }
     if opened[process as usize] == 0 {
@@ -60,7 +60,7 @@ pub fn of_fire<'a>(
     requires { ⌜ processes ≤ 64 ⌝ }
     ensures { λ r. ⌜ r ≡ fire-number processes (now (opened .entry)) (now (marks .entry)) process ⌝ }
 {
-    if plan::short(processes) <= process {
+    if bytes::to_word(processes) <= process {
         return 20;
     }
     if opened[process as usize] == 0 {

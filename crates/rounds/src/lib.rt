@@ -1,5 +1,5 @@
 // Tests 9 to 12 over lent tables: process edges; each counter's nodes in one process; increments; sums of increments.
-use plan::wide;
+use bytes::to_index;
 ghost use mathlib.Core.Path.{_≡_};
 ghost use Prim.Native.Nat.{_<_, _≤_};
 ghost use Rattle.loops.specs.First.{first};
@@ -142,7 +142,7 @@ fn has_counter_at(counter: &[u16; 64], c: usize, v: usize) -> bool
     requires { ⌜ v < 64 ⌝ }
     ensures { λ r. ⌜ r ≡ has-counter (now (counter .entry)) c v ⌝ }
 {
-    wide(counter[v]) == c
+    to_index(counter[v]) == c
 }
 
 // The lowest node with counter c, or the number of nodes.
@@ -165,7 +165,7 @@ fn strays_at<'a>(homes: &'a [u16; 64], counter: &'a [u16; 64], f: usize, c: usiz
     requires { ⌜ (f < 64) × (v < 64) ⌝ }
     ensures { λ r. ⌜ r ≡ strays-in (now (homes .entry)) (now (counter .entry)) f c v ⌝ }
 {
-    if wide(counter[v]) == c {
+    if to_index(counter[v]) == c {
         seats::synchronising(homes, v, f)
     } else {
         false
@@ -232,7 +232,7 @@ fn sends_at<'a>(crossing: &'a [u8; 512], source: &'a [u16; 512], v: usize, e: us
     ensures { λ r. ⌜ r ≡ sends-in (now (crossing .entry)) (now (source .entry)) v e ⌝ }
 {
     if crossing[e] == 1 {
-        wide(source[e]) == v
+        to_index(source[e]) == v
     } else {
         false
     }

@@ -13,13 +13,6 @@ pub struct Sweep {
     pub drop: u32,
 }
 
-// A node's number, wide enough to index with.
-fn wide(x: u16) -> usize
-    ensures { λ r. ⌜ (r ≡ x) × (r < 65536) ⌝ }
-{
-    x as usize
-}
-
 // The smaller of an entry and of the source's entry with the edge's tokens added.
 fn smaller(entry: u32, before: u32, tokens: u16) -> u32
     requires { ⌜ before ≤ no-route ⌝ }
@@ -44,8 +37,8 @@ pub fn relax_sweep<'a>(
     let mut drop: u32 = 0;
     let mut e: usize = 0;
     while e < edges {
-        let s = wide(source[e]);
-        let d = wide(destination[e]);
+        let s = bytes::to_index(source[e]);
+        let d = bytes::to_index(destination[e]);
         let entry = out[d];
         let lower = smaller(entry, out[s], tokens[e]);
         out[d] = lower;

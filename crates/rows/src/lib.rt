@@ -7,13 +7,6 @@ ghost use Rattle.loops.specs.Table.{padded};
 ghost use Rattle.plan.specs.Value.{base};
 ghost use Rattle.rows.specs.Lists.{NextsOk, next-in, wanted, allowed-row, row-above, rows-above, row-left, row-total, with-row};
 
-// A row's number, wide enough to add up.
-fn byte(x: u8) -> u32
-    ensures { λ r. ⌜ (r ≡ x) × (r ≤ 255) ⌝ }
-{
-    x as u32
-}
-
 // The next node of a process.
 pub fn next_node<'a>(
     order: &'a [u16; 64],
@@ -25,7 +18,7 @@ pub fn next_node<'a>(
     ensures { λ r. ⌜ r ≡ next-in (now (order .entry)) (now (lengths .entry)) (now (positions .entry)) p ⌝ }
 {
     let start = plan::lengths_sum(lengths, p);
-    order[start + plan::wide(positions[p])]
+    order[start + bytes::to_index(positions[p])]
 }
 
 // The next node of each process.
@@ -179,7 +172,7 @@ pub fn row_sum(row: &[u8; 512], edges: usize) -> u32
     let mut total: u32 = 0;
     let mut e: usize = 0;
     while e < edges {
-        total += byte(row[e]);
+        total += bytes::byte_to_word(row[e]);
         e += 1;
     }
     total
@@ -194,7 +187,7 @@ pub fn marks_left(marks: &[u8; 32768], p: usize) -> u32
     let mut left: u32 = 0;
     let mut k: usize = 0;
     while k < 512 {
-        left += byte(marks[row + k]);
+        left += bytes::byte_to_word(marks[row + k]);
         k += 1;
     }
     left

@@ -13,7 +13,7 @@ fn stands_at(order: &[u16; 64], v: usize, i: usize) -> bool
     requires { ⌜ i < 64 ⌝ }
     ensures { λ r. ⌜ r ≡ stands-at (now (order .entry)) v i ⌝ }
 {
-    plan::wide(order[i]) == v
+    bytes::to_index(order[i]) == v
 }
 
 // The order position of a node, or the number of nodes where it has none.
@@ -37,7 +37,7 @@ fn ends_by(lengths: &[u16; 64], processes: usize, p: usize, start: usize, i: usi
     ensures { λ r. ⌜ r ≡ ended (now (lengths .entry)) processes p start i ⌝ }
 {
     if p < processes {
-        plan::wide(lengths[p]) <= i - start
+        bytes::to_index(lengths[p]) <= i - start
     } else {
         false
     }
@@ -60,10 +60,10 @@ pub fn homes<'a>(
     let mut i: usize = 0;
     while i < nodes {
         if ends_by(lengths, processes, p, start, i) {
-            start += plan::wide(lengths[p]);
+            start += bytes::to_index(lengths[p]);
             p += 1;
         } else {
-            table[plan::wide(order[i])] = p as u16;
+            table[bytes::to_index(order[i])] = p as u16;
             i += 1;
         }
     }
@@ -92,7 +92,11 @@ fn crossing_at<'a>(
     requires { ⌜ (e < 512) × (at (now source) e < 64) × (at (now destination) e < 64) ⌝ }
     ensures { λ r. ⌜ r ≡ crosses (now (homes .entry)) (now (source .entry)) (now (destination .entry)) e ⌝ }
 {
-    if synchronising(homes, plan::wide(source[e]), plan::wide(destination[e])) {
+    if synchronising(
+        homes,
+        bytes::to_index(source[e]),
+        bytes::to_index(destination[e]),
+    ) {
         1
     } else {
         0

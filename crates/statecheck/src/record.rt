@@ -2,35 +2,13 @@
 // the 64 lengths, at 152 the 64 order entries (2 each); at 280 the 64 pairs of counter and increment (2 and 2); at 536 the 512 edges (source,
 // destination, tokens, 2 each). The state: at 3608 the 64 positions (2 each), at 3736 the 64 open flags (1 each), at 3800 the 64 counters
 // (4 each), at 4056 the turn (4), at 4060 the number of marks (2), and behind it for each its process (1), value (1) and edge (2).
-ghost use mathlib.Core.Path.{_≡_};
 ghost use Prim.Native.Nat.{_<_, _≤_};
 use machine::State;
 use plan::Plan;
 
-// A byte, wide enough to be added.
-fn wide(byte: u8) -> u32
-    ensures { λ r. ⌜ r < 256 ⌝ }
-{
-    byte as u32
-}
-
-// A number of two bytes, wide enough to be added.
-fn short(pair: u16) -> u32
-    ensures { λ r. ⌜ r < 65536 ⌝ }
-{
-    pair as u32
-}
-
-// A number as a size.
-fn size(n: u32) -> usize
-    ensures { λ r. ⌜ r ≡ n ⌝ }
-{
-    n as usize
-}
-
 // The length in front of a record.
 pub fn length_in(bytes: &[u8; 4]) -> usize {
-    size(wide(bytes[0]) + 256 * wide(bytes[1]) + 65536 * wide(bytes[2]) + 16777216 * wide(bytes[3]))
+    bytes::word_to_index(bytes::quad_at(bytes, 0))
 }
 
 // A byte.
@@ -42,15 +20,14 @@ pub fn byte_at(record: &[u8; 65536], place: usize) -> u8 {
 fn pair_at(record: &[u8; 65536], place: usize) -> u16
     requires { ⌜ place < 1000000 ⌝ }
 {
-    let sum = wide(byte_at(record, place)) + 256 * wide(byte_at(record, place + 1));
-    sum as u16
+    bytes::pair_of(byte_at(record, place), byte_at(record, place + 1))
 }
 
 // A number of four bytes.
 pub fn number_at(record: &[u8; 65536], place: usize) -> u32
     requires { ⌜ place < 900000 ⌝ }
 {
-    short(pair_at(record, place)) + 65536 * short(pair_at(record, place + 2))
+    bytes::quad_of(pair_at(record, place), pair_at(record, place + 2))
 }
 
 // A count of four bytes. A plan value holds a count in two bytes: one above 65,535 is read as 65,535, which is out of shape as well.
@@ -139,14 +116,14 @@ fn counters_in(record: &[u8; 65536]) -> [u32; 64] {
 fn marks_count(record: &[u8; 65536]) -> usize
     ensures { λ r. ⌜ r < 65536 ⌝ }
 {
-    size(short(pair_at(record, 4060)))
+    bytes::to_index(pair_at(record, 4060))
 }
 
 // Where the mark of a process and an edge stands: the remainders by 64 and by 512 count.
 fn mark_place(process: u8, edge: u16) -> usize
     ensures { λ r. ⌜ r < 32768 ⌝ }
 {
-    size(512 * (wide(process) % 64) + short(edge) % 512)
+    bytes::word_to_index(512 * (bytes::byte_to_word(process) % 64) + bytes::to_word(edge) % 512)
 }
 
 // The marks.

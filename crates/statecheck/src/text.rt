@@ -40,8 +40,8 @@ pub fn put_word(out: &mut [u8; 65536], place: usize, word: &[u8]) -> usize {
 
 // A number in decimal digits.
 pub fn put_decimal(out: &mut [u8; 65536], place: usize, n: u32) -> usize {
-    let mut digits = [0u8; 20];
-    let count = io::decimal(n as u64, &mut digits);
+    let mut digits = [0u8; 10];
+    let count = bytes::text::put_decimal(&mut digits, 0, n);
     put_word(out, place, &digits[..count])
 }
 

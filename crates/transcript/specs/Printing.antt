@@ -13,7 +13,7 @@ use Rattle.plan.specs.Faults.{InShape}
 use Rattle.judge.specs.declared.Answer.{Answer}
 use Rattle.judge.specs.declared.Answer.the-variants.{Accepted, Refused}
 use Rattle.reader.specs.declared.Reading.{Reading}
-use Rattle.image.specs.Image.{four-bytes}
+use Rattle.bytes.specs.LittleEndian.{four-bytes}
 use Rattle.reader.specs.Tests.{reading-of}
 use Rattle.reader.specs.Theorems.{accepted-sound, all-of-the-plan, answer-is}
 use Rattle.reader.specs.Tests.{IsAccepted}
@@ -23,7 +23,7 @@ use Rattle.transcript.specs.declared.Printed.the-variants.{Whole, TooSho
 use Rattle.lines.specs.Words.{too-long-line}
 use Rattle.transcript.specs.Text.{calls-text, image-length, text-by, text-read, run-text, text-of, printed, out-after}
 use Rattle.lines.specs.Lines.{plan-line, refusal-text}
-use Rattle.lines.specs.Writing.{Put, put-then, put-same, put-nowhere, put-front}
+use Rattle.bytes.specs.Writing.{Put, put-then, put-same, put-nowhere, put-front}
 
 -- ---- the image's length, by the total field
 module _ (input : List ℕ) where

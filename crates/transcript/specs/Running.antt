@@ -13,7 +13,7 @@ use lib.Seq.{drop-cons}
 use Rattle.loops.specs.Choice.{at, if, if-true, if-false}
 use Rattle.plan.specs.declared.Plan.{Plan}
 use Rattle.plan.specs.Faults.{InShape}
-use Rattle.image.specs.Image.{two-bytes}
+use Rattle.bytes.specs.LittleEndian.{two-bytes}
 use Rattle.machine.specs.declared.State.{State}
 use Rattle.machine.specs.declared.Turned.{Turned}
 use Rattle.machine.specs.declared.Began.{Began}
@@ -27,7 +27,7 @@ use Rattle.machine.specs.ShapeKept.{kept-exactly, shape-kept-in-shape}
 use Rattle.lines.specs.Words.{cut-line}
 use Rattle.transcript.specs.Text.{lines, calls-in, left-over, calls-text}
 use Rattle.lines.specs.Lines.{line}
-use Rattle.lines.specs.Writing.{Put, put-none, put-then, put-same}
+use Rattle.bytes.specs.Writing.{Put, put-none, put-then, put-same}
 
 -- the bytes at a place as a call: code, process, and two bytes of edge
 unfoldable pub call-at : List ℕ → ℕ → Call

@@ -9,7 +9,7 @@ use Rattle.plan.specs.declared.Plan.{Plan}
 use Rattle.judge.specs.declared.Answer.{Answer}
 use Rattle.judge.specs.declared.Answer.the-variants as answers
 use Rattle.reader.specs.declared.Reading.{Reading}
-use Rattle.image.specs.Image.{four-bytes}
+use Rattle.bytes.specs.LittleEndian.{four-bytes}
 use Rattle.reader.specs.Tests.{reading-of}
 use Rattle.machine.specs.declared.State.{State}
 use Rattle.machine.specs.declared.Reply.{Reply}

@@ -3,10 +3,10 @@ ghost use mathlib.Core.Path.{_≡_};
 ghost use Prim.Native.Nat.{_+_, _<_, _≤_};
 ghost use lib.ListN.{length};
 ghost use Rattle.plan.specs.Faults.{InShape};
-ghost use Rattle.image.specs.Image.{two-bytes, four-bytes};
+ghost use Rattle.bytes.specs.LittleEndian.{four-bytes};
 ghost use Rattle.machine.specs.States.{fresh};
 ghost use Rattle.transcript.specs.Text.{calls-text, image-length, run-text, text-of};
-ghost use Rattle.lines.specs.Writing.{Put};
+ghost use Rattle.bytes.specs.Writing.{Put};
 ghost use Rattle.transcript.specs.Running.{cut-if};
 ghost use Rattle.transcript.specs.Printing.{Answers};
 use judge::Answer;
@@ -18,28 +18,12 @@ pub enum Printed {
     TooShort { needed: usize },
 }
 
-// A byte of the input, wide enough to be a call's number.
-fn wide(byte: u8) -> u32
-    ensures { λ r. ⌜ (r ≡ byte) × (r < 256) ⌝ }
-{
-    byte as u32
-}
-
-// The number of two bytes at a place, the lower byte first.
-fn pair_at(bytes: &[u8], place: usize) -> u32
-    requires { ⌜ place + 1 < length (now bytes) ⌝ }
-    ensures { λ r. ⌜ (r ≡ two-bytes (now (bytes .entry)) place) × (r < 65536) ⌝ }
-{
-    wide(bytes[place]) + 256 * wide(bytes[place + 1])
-}
-
 // T, the total field.
 fn total_field(input: &[u8]) -> usize
     requires { ⌜ 36 ≤ length (now input) ⌝ }
     ensures { λ r. ⌜ r ≡ four-bytes (now (input .entry)) 32 ⌝ }
 {
-    let total = pair_at(input, 32) + 65536 * pair_at(input, 34);
-    total as usize
+    bytes::word_to_index(bytes::quad_at(input, 32))
 }
 
 // The image is the first T bytes; the whole input where T is missing, below 36 or beyond the input.
@@ -67,7 +51,7 @@ fn put_left_over(out: &mut [u8], place: usize, left: usize) -> usize
     if left == 0 {
         return place;
     }
-    lines::text::put_word(out, place, b"cut\n")
+    bytes::text::put_word(out, place, b"cut\n")
 }
 
 // The calls of four bytes: code, process, edge (two bytes). The run begins from an accepted plan; each call keeps the shape, so none is tested.
@@ -84,9 +68,9 @@ fn put_calls(plan: Plan, calls: &[u8], out: &mut [u8], place: usize) -> usize
         let turned = machine::step_in_shape(
             plan,
             state,
-            wide(calls[i]),
-            wide(calls[i + 1]),
-            pair_at(calls, i + 2),
+            bytes::byte_to_word(calls[i]),
+            bytes::byte_to_word(calls[i + 1]),
+            bytes::to_word(bytes::pair_at(calls, i + 2)),
         );
         let reply = turned.reply;
         next = lines::put_line(out, next, index, reply);
@@ -118,7 +102,7 @@ fn put_text(input: &[u8], out: &mut [u8]) -> usize
     ensures { λ r. ⌜ Put (now (out .entry)) 0 (text-of (now (input .entry))) (now (out .exit)) r × (r ≤ 409642) ⌝ }
 {
     if 65536 < input.len() {
-        return lines::text::put_word(out, 0, b"too long\n");
+        return bytes::text::put_word(out, 0, b"too long\n");
     }
     put_run(input, out)
 }

@@ -5,10 +5,10 @@ use Rattle.cycles.proofs.through_at.Statement.{statement}
 use Rattle.cycles.proofs.through_at.Tie as tie
 
 joined-requires : tie.Need-joined-requires
-joined-requires c κs = let w = c .before .before in w .before .before .pre .2 (w .wide .result)
+joined-requires c κs = let w = c .before .before in w .before .before .pre .2 (w .to-index .result)
 
 returns : tie.Need-returns
-returns c = c .joined .ensures ∙ rw (c .before .before .before .wide .ensures)
+returns c = c .joined .ensures ∙ rw (c .before .before .before .to-index .ensures .0)
 
 pub through-at-spec : {M : Type 1} → statement M
 through-at-spec =

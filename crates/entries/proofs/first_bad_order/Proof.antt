@@ -16,19 +16,19 @@ returns : tie.Need-returns Inv-loop μ-loop
 returns c =
     let read = c .before in
     let turn = read .before .before in
-    seeing-high (turn .before .loop .inv) (turn .loop-test .taken) (read .wide .ensures) (omega arith)
+    seeing-high (turn .before .loop .inv) (turn .loop-test .taken) (read .to-index .ensures .0) (omega arith)
 
 returns-2 : tie.Need-returns-2 Inv-loop μ-loop
 returns-2 c =
     let read = c .before .before in
     let turn = read .before .before in
-    seeing-seen (turn .before .loop .inv) (turn .loop-test .taken) (read .wide .ensures) (omega arith) (omega (arith, c .if2 .taken))
+    seeing-seen (turn .before .loop .inv) (turn .loop-test .taken) (read .to-index .ensures .0) (omega arith) (omega (arith, c .if2 .taken))
 
 loop-again : tie.Need-loop-again Inv-loop μ-loop
 loop-again c =
     let read = c .before .before in
     let turn = read .before .before in
-    seeing-more (turn .before .loop .inv) (turn .loop-test .taken) (turn .before .before .pre) (omega (arith, read .wide .ensures)) (omega arith)
+    seeing-more (turn .before .loop .inv) (turn .loop-test .taken) (turn .before .before .pre) (omega (arith, read .to-index .ensures .0)) (omega arith)
     (λ old. c .if2 .left (omega arith)) (omega arith)
 
 pub first-bad-order-spec : {M : Type 1} → statement M

@@ -7,11 +7,11 @@ use Rattle.formula.proofs.share_at.Tie as tie
 
 returns : tie.Need-returns
 unfolding share
-returns c = rw (← c .before .before .before .wide .ensures) (search (needs, ifs))
+returns c = rw (← c .before .before .before .to-index .ensures .0) (search (needs, ifs))
 
 returns-2 : tie.Need-returns-2
 unfolding share
-returns-2 c = rw (← c .before .before .wide .ensures) (search (needs, ifs))
+returns-2 c = rw (← c .before .before .to-index .ensures .0) (search (needs, ifs))
 
 pub share-at-spec : {M : Type 1} → statement M
 share-at-spec =

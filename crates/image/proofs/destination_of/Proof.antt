@@ -1,7 +1,7 @@
 -- `image::destination_of` meets its contract. Assumes nothing.
 use borrow.Author.Needs.{needs}
 use native.Mathlib.Omega.{arith}
-use Rattle.image.specs.Image.{order-start, node-start, edge-start, total}
+use Rattle.image.specs.Offsets.{order-start, node-start, edge-start, total}
 use Rattle.image.proofs.destination_of.Statement.{statement}
 use Rattle.image.proofs.destination_of.Tie as tie
 
@@ -16,4 +16,11 @@ returns c = cc
 pub destination-of-spec : {M : Type 1} → statement M
 destination-of-spec =
     tie.close
-    (tie.spec (λ c κs. search needs) (λ c κs. search needs) (λ c. search needs) table-of-512-requires returns)
+    (tie.spec
+    (λ c κs. search needs)
+    (λ c κs. search needs)
+    (λ c κs. search needs)
+    (λ c κs. search needs)
+    (λ c. search needs)
+    table-of-512-requires
+    returns)

@@ -17,14 +17,14 @@ returns-2 c = let e1 = c .before .before .before in
 
 returns-3 : tie.Need-returns-3
 unfolding good-later-offsets
-returns-3 c = let e2 = c .before .before .before in
+returns-3 c = let e2 = c .before .before .before .before in
     let e1 = e2 .before .before .before in
     both-yes _ _ _ (cc (not-is-false (e1 .before .holds-at .result) (e1 .if1 .left)))
     (both-yes _ _ _ (cc (not-is-false (e2 .before .holds-at2 .result) (e2 .if2 .left))) (both-no _ _ (cc (not-is-true (c .before .holds-at3 .result) (c .if3 .taken)))))
 
 returns-4 : tie.Need-returns-4
 unfolding good-later-offsets
-returns-4 c = let e2 = c .before .before .before in
+returns-4 c = let e2 = c .before .before .before .before in
     let e1 = e2 .before .before .before in
     both-yes _ _ _ (cc (not-is-false (e1 .before .holds-at .result) (e1 .if1 .left)))
     (both-yes _ _ _ (cc (not-is-false (e2 .before .holds-at2 .result) (e2 .if2 .left))) (both-yes _ _ _ (cc (not-is-false (c .before .holds-at3 .result) (c .if3 .left))) (cc)))
@@ -35,10 +35,13 @@ later-offsets-fit-spec =
     (tie.spec
     (λ c κs. search needs)
     (λ c κs. search needs)
+    (λ c κs. search needs)
+    (λ c κs. search needs)
     returns
     (λ c κs. search needs)
     (λ c κs. search needs)
     returns-2
+    (λ c κs. search needs)
     (λ c κs. search needs)
     (λ c κs. search needs)
     returns-3

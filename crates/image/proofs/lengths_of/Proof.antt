@@ -1,7 +1,7 @@
 -- `image::lengths_of` meets its contract. Assumes nothing.
 use borrow.Author.Needs.{needs}
 use native.Mathlib.Omega.{arith}
-use Rattle.image.specs.Image.{order-start, node-start, edge-start, total}
+use Rattle.image.specs.Offsets.{order-start, node-start, edge-start, total}
 use Rattle.image.proofs.lengths_of.Statement.{statement}
 use Rattle.image.proofs.lengths_of.Tie as tie
 

@@ -12,13 +12,13 @@ returns c = both-no _ _ (cc (not-is-true (c .before .holds-at .result) (c .if1 .
 
 returns-2 : tie.Need-returns-2
 unfolding good-offsets
-returns-2 c = let e1 = c .before .before .before in
+returns-2 c = let e1 = c .before .before .before .before in
     both-yes _ _ _ (cc (not-is-false (e1 .before .holds-at .result) (e1 .if1 .left))) (both-no _ _ (cc (not-is-true (c .before .holds-at2 .result) (c .if2 .taken))))
 
 returns-3 : tie.Need-returns-3
 unfolding good-offsets
 returns-3 c = let e2 = c .before in
-    let e1 = e2 .before .before .before in
+    let e1 = e2 .before .before .before .before in
     both-yes _ _ _ (cc (not-is-false (e1 .before .holds-at .result) (e1 .if1 .left)))
     (both-yes _ _ _ (cc (not-is-false (e2 .before .holds-at2 .result) (e2 .if2 .left))) (c .later-offsets-fit .ensures))
 
@@ -28,6 +28,7 @@ offsets-fit-spec =
     (tie.spec
     (λ c κs. search needs)
     returns
+    (λ c κs. search needs)
     (λ c κs. search needs)
     (λ c κs. search needs)
     returns-2

@@ -1,7 +1,7 @@
 -- `image::order_of` meets its contract. Assumes nothing.
 use borrow.Author.Needs.{needs}
 use native.Mathlib.Omega.{arith}
-use Rattle.image.specs.Image.{order-start, node-start, edge-start, total}
+use Rattle.image.specs.Offsets.{order-start, node-start, edge-start, total}
 use Rattle.image.proofs.order_of.Statement.{statement}
 use Rattle.image.proofs.order_of.Tie as tie
 
@@ -15,4 +15,10 @@ returns c = cc
 
 pub order-of-spec : {M : Type 1} → statement M
 order-of-spec =
-    tie.close (tie.spec (λ c κs. search needs) (λ c κs. search needs) table-of-64-requires returns)
+    tie.close
+    (tie.spec
+    (λ c κs. search needs)
+    (λ c κs. search needs)
+    (λ c κs. search needs)
+    table-of-64-requires
+    returns)

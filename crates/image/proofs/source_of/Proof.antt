@@ -1,7 +1,7 @@
 -- `image::source_of` meets its contract. Assumes nothing.
 use borrow.Author.Needs.{needs}
 use native.Mathlib.Omega.{arith}
-use Rattle.image.specs.Image.{order-start, node-start, edge-start, total}
+use Rattle.image.specs.Offsets.{order-start, node-start, edge-start, total}
 use Rattle.image.proofs.source_of.Statement.{statement}
 use Rattle.image.proofs.source_of.Tie as tie
 
@@ -15,4 +15,11 @@ returns c = cc
 
 pub source-of-spec : {M : Type 1} → statement M
 source-of-spec =
-    tie.close (tie.spec (λ c κs. search needs) (λ c κs. search needs) table-of-512-requires returns)
+    tie.close
+    (tie.spec
+    (λ c κs. search needs)
+    (λ c κs. search needs)
+    (λ c κs. search needs)
+    (λ c κs. search needs)
+    table-of-512-requires
+    returns)

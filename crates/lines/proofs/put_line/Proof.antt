@@ -1,9 +1,9 @@
 -- `lines::put_line` meets its contract. Assumes nothing.
 use borrow.Author.Needs.{needs}
 use native.Mathlib.Omega.{arith}
-use Rattle.lines.specs.Decimal.{few-digits}
+use Rattle.bytes.specs.Decimal.{few-digits}
 use Rattle.lines.specs.Lines.{line}
-use Rattle.lines.specs.Writing.{put-then}
+use Rattle.bytes.specs.Writing.{put-then}
 use Rattle.lines.proofs.put_line.Statement.{statement}
 use Rattle.lines.proofs.put_line.Tie as tie
 

@@ -2,7 +2,7 @@
 use borrow.Author.Needs.{needs}
 use native.Mathlib.Omega.{arith}
 use Rattle.lines.specs.Lines.{refusal-text}
-use Rattle.lines.specs.Writing.{put-none, put-like}
+use Rattle.bytes.specs.Writing.{put-none, put-like}
 use Rattle.lines.proofs.put_refusal.Statement.{statement}
 use Rattle.lines.proofs.put_refusal.Tie as tie
 

@@ -2,7 +2,7 @@
 use borrow.Author.Needs.{needs}
 use native.Mathlib.Omega.{arith}
 use Rattle.lines.specs.Lines.{refused-line}
-use Rattle.lines.specs.Writing.{put-then}
+use Rattle.bytes.specs.Writing.{put-then}
 use Rattle.lines.proofs.put_refused_line.Statement.{statement}
 use Rattle.lines.proofs.put_refused_line.Tie as tie
 

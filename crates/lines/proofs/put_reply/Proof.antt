@@ -1,7 +1,7 @@
 -- `lines::put_reply` meets its contract. Assumes nothing.
 use borrow.Author.Needs.{needs}
 use Rattle.lines.specs.Lines.{said}
-use Rattle.lines.specs.Writing.{put-like}
+use Rattle.bytes.specs.Writing.{put-like}
 use Rattle.lines.proofs.put_reply.Statement.{statement}
 use Rattle.lines.proofs.put_reply.Tie as tie
 

@@ -1,7 +1,7 @@
 -- `lines::put_said` meets its contract. Assumes nothing.
 use borrow.Author.Needs.{needs}
 use native.Mathlib.Omega.{arith}
-use Rattle.lines.specs.Writing.{put-then}
+use Rattle.bytes.specs.Writing.{put-then}
 use Rattle.lines.proofs.put_said.Statement.{statement}
 use Rattle.lines.proofs.put_said.Tie as tie
 

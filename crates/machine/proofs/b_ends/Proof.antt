@@ -13,12 +13,12 @@ b-of-requires-2 c κs = search (needs, counted-at)
 
 returns : tie.Need-returns
 returns c = let at-b-of = c .before .before .before .before .before .before in
-    let at-wide4 = at-b-of .before .before .before .before .before .before in
-    let at-wide3 = at-wide4 .before .before in
-    let at-wide2 = at-wide3 .before .before in
-    let at-wide = at-wide2 .before in
-    let start = at-wide .before in
-    record { end-is = b-from (start .args .t1) _ _ _ _ _ _ (at-b-of .b-of .ensures .0) (at-wide3 .wide3 .ensures) (at-wide .wide .ensures) (at-wide2 .wide2 .ensures); source-is = b-from (start .args .t1) _ _ _ _ _ _ (c .b-of2 .ensures .0) (at-wide4 .wide4 .ensures) (at-wide .wide .ensures) (at-wide2 .wide2 .ensures); end-lt = at-b-of .b-of .ensures .1; source-lt = c .b-of2 .ensures .1 }
+    let at-index4 = at-b-of .before .before .before .before .before .before in
+    let at-index3 = at-index4 .before .before in
+    let at-index2 = at-index3 .before .before in
+    let at-index = at-index2 .before in
+    let start = at-index .before in
+    record { end-is = b-from (start .args .t1) _ _ _ _ _ _ (at-b-of .b-of .ensures .0) (at-index3 .to-index3 .ensures .0) (at-index .to-index .ensures .0) (at-index2 .to-index2 .ensures .0); source-is = b-from (start .args .t1) _ _ _ _ _ _ (c .b-of2 .ensures .0) (at-index4 .to-index4 .ensures .0) (at-index .to-index .ensures .0) (at-index2 .to-index2 .ensures .0); end-lt = at-b-of .b-of .ensures .1; source-lt = c .b-of2 .ensures .1 }
 
 pub b-ends-spec : {M : Type 1} → statement M
 b-ends-spec =

@@ -10,18 +10,18 @@ homes-requires : tie.Need-homes-requires
 homes-requires c κs =
     let at-wide = c .before in
     let t = at-wide .before .before .before .before .pre in
-    (search needs, search needs, rw (at-wide .wide .ensures) (order-once _ t))
+    (search needs, search needs, rw (at-wide .to-index .ensures .0) (order-once _ t))
 
 crossing-row-requires : tie.Need-crossing-row-requires
 crossing-row-requires c κs = search (needs, ends-ok)
 
 returns : tie.Need-returns
-returns c = let at-wide3 = c .before in
-    let at-homes = at-wide3 .before .before .before .before .before in
-    let at-wide2 = at-homes .before in
-    let at-wide = at-wide2 .before in
-    let start = at-wide .before .before .before .before in
-    crossing-from (start .args .t1) _ _ _ _ _ (c .crossing-row .ensures) (at-homes .homes .ensures) (at-wide .wide .ensures) (at-wide2 .wide2 .ensures) (at-wide3 .wide3 .ensures)
+returns c = let at-index3 = c .before in
+    let at-homes = at-index3 .before .before .before .before .before in
+    let at-index2 = at-homes .before in
+    let at-index = at-index2 .before in
+    let start = at-index .before .before .before .before in
+    crossing-from (start .args .t1) _ _ _ _ _ (c .crossing-row .ensures) (at-homes .homes .ensures) (at-index .to-index .ensures .0) (at-index2 .to-index2 .ensures .0) (at-index3 .to-index3 .ensures .0)
 
 pub crossing-spec : {M : Type 1} → statement M
 crossing-spec =

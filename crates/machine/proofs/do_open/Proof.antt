@@ -11,9 +11,9 @@ returns c = let at-wrapping-add-u32 = c .before .before in
     let at-mark-row = at-wrapping-add-u32 .before in
     let at-to-see = at-mark-row .before .before .before in
     let at-next-node = at-to-see .before in
-    let at-wide = at-next-node .before .before .before in
-    let start = at-wide .before in
-    opened-from _ _ _ _ _ _ _ _ _ (c .row-sum .ensures) (at-mark-row .mark-row .ensures) (at-wrapping-add-u32 .wrapping-add-u32 .ensures) (at-to-see .to-see .ensures) (at-next-node .next-node .ensures) (at-wide .wide .ensures) (start .pre .tables)
+    let at-index = at-next-node .before .before .before in
+    let start = at-index .before in
+    opened-from _ _ _ _ _ _ _ _ _ (c .row-sum .ensures) (at-mark-row .mark-row .ensures) (at-wrapping-add-u32 .wrapping-add-u32 .ensures) (at-to-see .to-see .ensures) (at-next-node .next-node .ensures) (at-index .to-index .ensures .0) (start .pre .tables)
 
 pub do-open-spec : {M : Type 1} → statement M
 do-open-spec =

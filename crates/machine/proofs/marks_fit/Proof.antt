@@ -12,12 +12,12 @@ rows-excess-requires : tie.Need-rows-excess-requires
 rows-excess-requires c κs = search (needs, known-edges)
 
 returns : tie.Need-returns
-returns c = let at-wide2 = c .before in
-    let at-next-nodes = at-wide2 .before .before .before .before .before .before .before .before in
+returns c = let at-index2 = c .before in
+    let at-next-nodes = at-index2 .before .before .before .before .before .before .before .before in
     let at-crossing = at-next-nodes .before .before .before .before .before .before in
-    let at-wide = at-crossing .before in
-    let start = at-wide .before in
-    excess-from _ _ _ _ _ _ _ (c .rows-excess .ensures) (at-next-nodes .next-nodes .ensures) (at-crossing .crossing .ensures) (at-wide .wide .ensures) (at-wide2 .wide2 .ensures) (start .pre .tables)
+    let at-index = at-crossing .before in
+    let start = at-index .before in
+    excess-from _ _ _ _ _ _ _ (c .rows-excess .ensures) (at-next-nodes .next-nodes .ensures) (at-crossing .crossing .ensures) (at-index .to-index .ensures .0) (at-index2 .to-index2 .ensures .0) (start .pre .tables)
 
 pub marks-fit-spec : {M : Type 1} → statement M
 marks-fit-spec =

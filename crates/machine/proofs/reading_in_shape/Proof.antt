@@ -19,32 +19,32 @@ crossing-requires c κs = let start = c .before .before in
 
 array-read-if2 : tie.Need-array-read-if2
 array-read-if2 c = let at-if1 = c .before in
-    let at-short = at-if1 .before in
-    let start = at-short .before in
-    known-edge _ (start .pre .0) _ (below-it _ _ _ (at-short .short .ensures) (at-if1 .if1 .left))
+    let at-word = at-if1 .before in
+    let start = at-word .before in
+    known-edge _ (start .pre .0) _ (below-it _ _ _ (at-word .to-word .ensures .0) (at-if1 .if1 .left))
 
 edge-reading-requires : tie.Need-edge-reading-requires
 edge-reading-requires c κs = let at-if1 = c .before .before .before .before in
-    let at-short = at-if1 .before in
-    let start = at-short .before in
-    edge-ok _ _ (start .pre .0) (start .pre .1) _ (below-it _ _ _ (at-short .short .ensures) (at-if1 .if1 .left))
+    let at-word = at-if1 .before in
+    let start = at-word .before in
+    edge-ok _ _ (start .pre .0) (start .pre .1) _ (below-it _ _ _ (at-word .to-word .ensures .0) (at-if1 .if1 .left))
 
 returns-2 : tie.Need-returns-2
 unfolding reading-in-shape
 returns-2 c = let at-if2 = c .before .before .before in
     let at-crossing = at-if2 .before in
     let at-if1 = at-crossing .before in
-    let at-short = at-if1 .before in
-    let start = at-short .before in
-    reading-turn _ _ _ _ _ _ (start .pre .0) (at-crossing .crossing .ensures) (at-short .short .ensures) (at-if1 .if1 .left) (c .edge-reading .ensures) (at-if2 .if2 .taken)
+    let at-word = at-if1 .before in
+    let start = at-word .before in
+    reading-turn _ _ _ _ _ _ (start .pre .0) (at-crossing .crossing .ensures) (at-word .to-word .ensures .0) (at-if1 .if1 .left) (c .edge-reading .ensures) (at-if2 .if2 .taken)
 
 returns-3 : tie.Need-returns-3
 unfolding reading-in-shape
 returns-3 c = let at-crossing = c .before in
     let at-if1 = at-crossing .before in
-    let at-short = at-if1 .before in
-    let start = at-short .before in
-    no-reading _ _ _ 0 _ _ (start .pre .0) (at-crossing .crossing .ensures) (at-short .short .ensures) (at-if1 .if1 .left) (c .if2 .left)
+    let at-word = at-if1 .before in
+    let start = at-word .before in
+    no-reading _ _ _ 0 _ _ (start .pre .0) (at-crossing .crossing .ensures) (at-word .to-word .ensures .0) (at-if1 .if1 .left) (c .if2 .left)
 
 pub reading-in-shape-spec : {M : Type 1} → statement M
 reading-in-shape-spec =

@@ -9,10 +9,10 @@ wanted-row-requires : tie.Need-wanted-row-requires
 wanted-row-requires c κs = search (needs, known-edges)
 
 returns : tie.Need-returns
-returns c = let at-wide = c .before in
-    let at-crossing = at-wide .before .before .before .before in
+returns c = let at-index = c .before in
+    let at-crossing = at-index .before .before .before .before in
     let start = at-crossing .before in
-    row-from (start .args .t1) _ _ _ _ (c .wanted-row .ensures) (at-crossing .crossing .ensures) (at-wide .wide .ensures)
+    row-from (start .args .t1) _ _ _ _ (c .wanted-row .ensures) (at-crossing .crossing .ensures) (at-index .to-index .ensures .0)
 
 pub to-see-spec : {M : Type 1} → statement M
 to-see-spec = tie.close (tie.spec (λ c κs. search needs) (λ c κs. search needs) wanted-row-requires returns)

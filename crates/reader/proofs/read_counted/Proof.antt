@@ -31,6 +31,7 @@ plan-from-requires c κs =
 
 -- the plan that was built is the image's, but for its Q
 built : (c : tie.After-plan-from) → let s = start (c .before .before .before .before) .args .image .now in with-q (c .plan-from .result) (plan-of s .q) ≡ plan-of s
+unfolding plan-of
 built c = let s = start (c .before .before .before .before) .args .image .now in ap (λ pl. with-q pl (plan-of s .q)) (c .plan-from .ensures)
 
 from-5-requires : tie.Need-from-5-requires

@@ -20,14 +20,14 @@ goes-on : (c : tie.Then1 Inv-loop μ-loop)
     ≤ c .before .before .before .loop .i - c .before .before .before .loop .start)
 goes-on c = ended-means _ _ _ _ _ _ (c .before .ends-by .ensures) (c .if1 .taken)
 
-element-copy-out-wide : tie.Need-element-copy-out-wide Inv-loop μ-loop
-element-copy-out-wide c = omega (arith, goes-on c .0)
+element-copy-out-to-index : tie.Need-element-copy-out-to-index Inv-loop μ-loop
+element-copy-out-to-index c = omega (arith, goes-on c .0)
 
-mul-wide : tie.Need-mul-wide Inv-loop μ-loop
-mul-wide c = record { fits = omega (arith, goes-on c .0) }
+mul-to-index : tie.Need-mul-to-index Inv-loop μ-loop
+mul-to-index c = record { fits = omega (arith, goes-on c .0) }
 
 add-start : tie.Need-add-start Inv-loop μ-loop
-add-start c = record { fits = omega (arith, c .wide .ensures, goes-on (c .before .before) .1) }
+add-start c = record { fits = omega (arith, c .to-index .ensures .0, goes-on (c .before .before) .1) }
 
 loop-less : tie.Need-loop-less Inv-loop μ-loop
 loop-less c = omega (arith, goes-on (c .before .before) .0)
@@ -35,20 +35,20 @@ loop-less c = omega (arith, goes-on (c .before .before) .0)
 loop-again : tie.Need-loop-again Inv-loop μ-loop
 loop-again c =
     let test = c .before .before .before in
-    housed-on (test .before .before .loop .inv) (test .ends-by .ensures) (c .before .before .if1 .taken) (omega (arith, c .wide .ensures))
+    housed-on (test .before .before .loop .inv) (test .ends-by .ensures) (c .before .before .if1 .taken) (omega (arith, c .to-index .ensures .0))
 
 -- a turn that enters a process: the node at position i is below 64
-small : (c : tie.After-wide2 Inv-loop μ-loop) → c .wide2 .result < 64
+small : (c : tie.After-to-index2 Inv-loop μ-loop) → c .to-index2 .result < 64
 small c =
     let loop = c .before .before .before .before in
-    omega (arith, c .wide2 .ensures, loop .before .before .pre .2 .small (loop .before .loop .i) (loop .loop-test .taken))
+    omega (arith, c .to-index2 .ensures .0, loop .before .before .pre .2 .small (loop .before .loop .i) (loop .loop-test .taken))
 
 loop-again-2 : tie.Need-loop-again-2 Inv-loop μ-loop
 loop-again-2 c =
     let test = c .before .before .before in
     let turn = test .before in
     housed-more (turn .before .loop .inv) (turn .loop-test .taken) (turn .before .before .pre .0) (turn .before .before .pre .2) (test .ends-by .ensures)
-    (c .before .before .if1 .left) (omega (arith, c .wide2 .ensures)) (omega arith)
+    (c .before .before .if1 .left) (omega (arith, c .to-index2 .ensures .0)) (omega arith)
 
 pub homes-spec : {M : Type 1} → statement M
 homes-spec =
@@ -58,8 +58,8 @@ homes-spec =
     μ-loop
     (λ c. search (needs, housed-begin))
     (λ c κs. search needs)
-    mul-wide
-    element-copy-out-wide
+    mul-to-index
+    element-copy-out-to-index
     (λ c κs. search needs)
     add-start
     (λ c. search needs)

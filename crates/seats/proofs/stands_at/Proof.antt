@@ -6,7 +6,7 @@ use Rattle.seats.proofs.stands_at.Tie as tie
 
 returns : tie.Need-returns
 unfolding stands-at
-returns c = rw (c .wide .ensures)
+returns c = rw (c .to-index .ensures .0)
 
 pub stands-at-spec : {M : Type 1} → statement M
 stands-at-spec = tie.close (tie.spec (λ c. search needs) (λ c. search needs) (λ c κs. search needs) returns)

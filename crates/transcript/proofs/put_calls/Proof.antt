@@ -1,6 +1,6 @@
 -- `transcript::put_calls` meets its contract. Assumes nothing.
 use borrow.Author.Needs.{needs}
-use mathlib.Core.Path.{_≡_}
+use mathlib.Core.Path.{_≡_, _∙_}
 use Prim.Native.Nat.{_-_}
 use native.Mathlib.Omega.{arith}
 use lib.ListN.{length}
@@ -22,12 +22,13 @@ loop-again c =
     let line = c .before .before .before in
     let step = line .before .before in
     let edge = step .before in
-    let process = edge .before in
+    let pair = edge .before in
+    let process = pair .before in
     let code = process .before .before in
     let loop = code .before .before .before in
     let start = loop .before .before .before .before .before in (
-      running-more _ (start .pre .0) _ _ _ (step .step-in-shape .result) (loop .loop .inv .0) (search needs) _ _ _ (code .wide .ensures .0)
-          (process .wide2 .ensures .0) (edge .pair-at .ensures .0) (step .step-in-shape .ensures) (line .put-line .ensures .0) (line .put-line .ensures .1),
+      running-more _ (start .pre .0) _ _ _ (step .step-in-shape .result) (loop .loop .inv .0) (search needs) _ _ _ (code .byte-to-word .ensures .0)
+          (process .byte-to-word2 .ensures .0) (edge .to-word .ensures .0 ∙ pair .pair-at .ensures) (step .step-in-shape .ensures) (line .put-line .ensures .0) (line .put-line .ensures .1),
       search needs,
     )
 
@@ -49,6 +50,7 @@ put-calls-spec =
     (λ c. search needs)
     (λ c κs. search needs)
     (λ c. search needs)
+    (λ c κs. search needs)
     (λ c κs. search needs)
     (λ c κs. search needs)
     (λ c κs. search needs)

@@ -1,7 +1,7 @@
 -- `transcript::put_text` meets its contract. Assumes nothing.
 use borrow.Author.Needs.{needs}
 use native.Mathlib.Omega.{arith}
-use Rattle.lines.specs.Writing.{put-same}
+use Rattle.bytes.specs.Writing.{put-same}
 use Rattle.transcript.specs.Printing.{text-long, text-run}
 use Rattle.transcript.proofs.put_text.Statement.{statement}
 use Rattle.transcript.proofs.put_text.Tie as tie
