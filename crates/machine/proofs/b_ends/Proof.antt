@@ -1,24 +1,18 @@
 -- `machine::b_ends` meets its contract. Assumes nothing.
 use borrow.Author.Needs.{needs}
-use Rattle.machine.specs.InRange.{counted-at}
+use Rattle.machine.specs.InRange.{handed}
 use Rattle.machine.specs.Same.{b-from}
 use Rattle.machine.proofs.b_ends.Statement.{statement}
 use Rattle.machine.proofs.b_ends.Tie as tie
 
 b-of-requires : tie.Need-b-of-requires
-b-of-requires c κs = search (needs, counted-at)
+b-of-requires c κs = search (needs, handed)
 
 b-of-requires-2 : tie.Need-b-of-requires-2
-b-of-requires-2 c κs = search (needs, counted-at)
+b-of-requires-2 c κs = search (needs, handed)
 
 returns : tie.Need-returns
-returns c = let at-b-of = c .before .before .before .before .before .before in
-    let at-wide4 = at-b-of .before .before .before .before .before .before in
-    let at-wide3 = at-wide4 .before .before in
-    let at-wide2 = at-wide3 .before .before in
-    let at-wide = at-wide2 .before in
-    let start = at-wide .before in
-    record { end-is = b-from (start .args .t1) _ _ _ _ _ _ (at-b-of .b-of .ensures .0) (at-wide3 .wide3 .ensures) (at-wide .wide .ensures) (at-wide2 .wide2 .ensures); source-is = b-from (start .args .t1) _ _ _ _ _ _ (c .b-of2 .ensures .0) (at-wide4 .wide4 .ensures) (at-wide .wide .ensures) (at-wide2 .wide2 .ensures); end-lt = at-b-of .b-of .ensures .1; source-lt = c .b-of2 .ensures .1 }
+returns c = record { end-is = search (needs, b-from); source-is = search (needs, b-from); end-lt = search needs; source-lt = search needs }
 
 pub b-ends-spec : {M : Type 1} → statement M
 b-ends-spec =

@@ -1,20 +1,15 @@
 -- `machine::crossing` meets its contract. Assumes nothing.
 use borrow.Author.Needs.{needs}
-use Rattle.seats.specs.Crossing.{ends-ok}
+use Rattle.machine.specs.InRange.{handed}
 use Rattle.machine.specs.Same.{crossing-from}
 use Rattle.machine.proofs.crossing.Statement.{statement}
 use Rattle.machine.proofs.crossing.Tie as tie
 
 crossing-row-requires : tie.Need-crossing-row-requires
-crossing-row-requires c κs = search (needs, ends-ok)
+crossing-row-requires c κs = search (needs, handed)
 
 returns : tie.Need-returns
-returns c = let at-wide3 = c .before in
-    let at-homes = at-wide3 .before .before .before .before .before in
-    let at-wide2 = at-homes .before in
-    let at-wide = at-wide2 .before in
-    let start = at-wide .before .before .before .before in
-    crossing-from (start .args .t1) _ _ _ _ _ (c .crossing-row .ensures) (at-homes .homes .ensures) (at-wide .wide .ensures) (at-wide2 .wide2 .ensures) (at-wide3 .wide3 .ensures)
+returns c = search (needs, crossing-from)
 
 pub crossing-spec : {M : Type 1} → statement M
 crossing-spec =
