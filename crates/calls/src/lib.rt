@@ -61,7 +61,7 @@ fn plan_fits<'a>(
 }
 
 // Plan and state in shape.
-fn both_fit<'a>(
+pub fn both_fit<'a>(
     nodes: u16,
     processes: u16,
     edges: u16,

@@ -1,7 +1,7 @@
 -- `calls::answer` meets its contract. Assumes nothing.
 use borrow.Author.Needs.{needs}
 use Rattle.machine.specs.InRange.{both-ok}
-use Rattle.machine.specs.Same.{answers-26, answers, answers-25}
+use Rattle.machine.specs.Stepping.{answers-26, answers, answers-25}
 use Rattle.calls.proofs.answer.Statement.{statement}
 use Rattle.calls.proofs.answer.Tie as tie
 

@@ -1,7 +1,6 @@
 -- `machine::b_ends` meets its contract. Assumes nothing.
 use borrow.Author.Needs.{needs}
-use Rattle.machine.specs.InRange.{handed}
-use Rattle.machine.specs.Same.{b-from}
+use Rattle.machine.specs.Handed.{handed, b-from}
 use Rattle.machine.proofs.b_ends.Statement.{statement}
 use Rattle.machine.proofs.b_ends.Tie as tie
 

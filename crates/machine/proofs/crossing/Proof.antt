@@ -1,7 +1,6 @@
 -- `machine::crossing` meets its contract. Assumes nothing.
 use borrow.Author.Needs.{needs}
-use Rattle.machine.specs.InRange.{handed}
-use Rattle.machine.specs.Same.{crossing-from}
+use Rattle.machine.specs.Handed.{handed, crossing-from}
 use Rattle.machine.proofs.crossing.Statement.{statement}
 use Rattle.machine.proofs.crossing.Tie as tie
 

@@ -2,7 +2,7 @@
 use borrow.Author.Needs.{needs}
 use mathlib.Core.Path.{refl, ap, _∙_}
 use Rattle.formula.specs.Lists.{raised-in}
-use Rattle.machine.specs.InRange.{handed}
+use Rattle.machine.specs.Handed.{handed}
 use Rattle.machine.proofs.do_fire.Statement.{statement}
 use Rattle.machine.proofs.do_fire.Tie as tie
 

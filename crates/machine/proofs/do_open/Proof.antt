@@ -1,7 +1,7 @@
 -- `machine::do_open` meets its contract. Assumes nothing.
 use borrow.Author.Needs.{needs}
 use mathlib.Core.Path.{refl}
-use Rattle.machine.specs.Same.{count-from, marks-from, row-at-next}
+use Rattle.machine.specs.Handed.{count-from, marks-from, row-at-next}
 use Rattle.machine.proofs.do_open.Statement.{statement}
 use Rattle.machine.proofs.do_open.Tie as tie
 

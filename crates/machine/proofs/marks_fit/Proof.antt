@@ -1,7 +1,6 @@
 -- `machine::marks_fit` meets its contract. Assumes nothing.
 use borrow.Author.Needs.{needs}
-use Rattle.machine.specs.InRange.{handed}
-use Rattle.machine.specs.Same.{excess-from, nexts-from}
+use Rattle.machine.specs.Handed.{handed, excess-from, nexts-from}
 use Rattle.machine.proofs.marks_fit.Statement.{statement}
 use Rattle.machine.proofs.marks_fit.Tie as tie
 

@@ -3,8 +3,9 @@ use borrow.Author.Needs.{needs}
 use Rattle.loops.specs.Choice.{ifs}
 use Rattle.refusals.specs.Limits.{limits}
 use Rattle.machine.specs.Calls.{reading-in-shape}
-use Rattle.machine.specs.InRange.{below-it, known-edge, seated-ok, edge-ok}
-use Rattle.machine.specs.Same.{reading-turn, no-reading}
+use Rattle.machine.specs.InRange.{known-edge, seated-ok, edge-ok}
+use Rattle.machine.specs.Handed.{below-it}
+use Rattle.machine.specs.Stepping.{reading-turn, no-reading}
 use Rattle.machine.proofs.reading_in_shape.Statement.{statement}
 use Rattle.machine.proofs.reading_in_shape.Tie as tie
 

@@ -2,7 +2,7 @@
 use borrow.Author.Needs.{needs}
 use Rattle.machine.specs.Calls.{raised}
 use Rattle.machine.specs.InRange.{processes-most, edges-most}
-use Rattle.machine.specs.Same.{refused-step, opened-step, looked-step, fired-step, opens-ok, edge-known, looks-ok, fires-ok}
+use Rattle.machine.specs.Stepping.{refused-step, opened-step, looked-step, fired-step, opens-ok, edge-known, looks-ok, fires-ok}
 use Rattle.machine.proofs.step_in_shape.Statement.{statement}
 use Rattle.machine.proofs.step_in_shape.Tie as tie
 
@@ -11,7 +11,7 @@ of-call-requires c κs = let pre = c .before .before .pre in
     (processes-most _ (pre .0), edges-most _ (pre .0))
 
 returns : tie.Need-returns
-returns c = refused-step _ _ _ _ _ _ (c .before .of-call .ensures) (c .if1 .taken)
+returns c = search (needs, refused-step)
 
 do-open-requires : tie.Need-do-open-requires
 do-open-requires c κs = let coded = c .before .before .before in

@@ -1,6 +1,6 @@
 -- `machine::to_see` meets its contract. Assumes nothing.
 use borrow.Author.Needs.{needs}
-use Rattle.machine.specs.Same.{row-from}
+use Rattle.machine.specs.Handed.{row-from}
 use Rattle.machine.proofs.to_see.Statement.{statement}
 use Rattle.machine.proofs.to_see.Tie as tie
 
