@@ -122,7 +122,7 @@ module _ (pl : Plan) (sound : Sound pl) (s : List ℕ) (p : ℕ) (h : p < pl .pr
   -- ---- the looks and the fire
   swept-answers : (es : List ℕ) (st : State) → Follows pl sound st s → MayFire st → at (st .opened) p ≢ 0 → Listed (mark st p) 512 es
       → replies pl st (looks p es ++ (to-fire p ∷ [])) ≡ look-answers es ++ (Fired (next-node pl st p) ∷ [])
-  unfolding do-fire next-node
+  unfolding do-fire next-node node-at
   swept-answers es st f may o l =
       let r = sweep es st f may l in
       let end = r .0 in

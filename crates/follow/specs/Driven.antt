@@ -115,7 +115,7 @@ module _ (pl : Plan) (sound : Sound pl) (st : State) (s : List ℕ) (f : Follows
   -- a node that may fire is the next one of its process
   pub fireable-next : (v : ℕ) → v < graph-of pl .nodes → Fireable (graph-of pl) (tokens-after pl s) v
       → (p : ℕ) × (p < pl .processes) × (next-node pl st p ≡ v)
-  unfolding next-node seats seats-of
+  unfolding next-node node-at seats seats-of
   fireable-next v h may =
       let S = seats pl sound in
       let next = next-only (graph-of pl) S (f .stands .rounds) (at (st .positions)) s (f .stands .legal) (f .stands .standing) v h may in

@@ -13,9 +13,11 @@ use Rattle.net.specs.Seating.{seats-of}
 use Rattle.counting.specs.Modular.{less-earlier, finds}
 use Rattle.plan.specs.declared.Plan.{Plan}
 use Rattle.plan.specs.Value.{graph-of, node-at, Synchronising, share, counter-sum}
+use Rattle.plan.specs.Tests.{home, seat}
 use Rattle.judge.specs.Sound.{Sound}
 use Rattle.machine.specs.declared.State.{State}
-use Rattle.machine.specs.Calls.{earlier, b-of, edge-found}
+use Rattle.formula.specs.Lists.{shares-in, earlier-in, b-in}
+use Rattle.machine.specs.Calls.{b-of, edge-found}
 use Rattle.follow.specs.Beside.{b, finds-edge, look-exact}
 use Rattle.follow.specs.PlanSeats.{tokens-after, shaped, seats, home-seat, between, sum-at-end, counters}
 use Rattle.follow.specs.StandsFor.{Follows}
@@ -23,7 +25,7 @@ use Rattle.follow.specs.StandsFor.{Follows}
 module _ (pl : Plan) (sound : Sound pl) where
   -- b(x) is the one of `Beside`
   b-is : (st : State) (v : ℕ) → v < graph-of pl .nodes → b-of pl st v ≡ b (graph-of pl) (seats pl sound) (counters pl sound) (at (st .counters)) v
-  unfolding b-of earlier counters seats seats-of
+  unfolding b-of b-in earlier-in shares-in home seat node-at counters seats seats-of
   b-is st v h =
       let own = at (pl .counter) v in
       let t = home-seat pl sound v h in

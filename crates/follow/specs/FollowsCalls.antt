@@ -17,6 +17,7 @@ use Rattle.net.specs.Rounds.{moved}
 use Rattle.plan.specs.declared.Plan.{Plan}
 use Rattle.plan.specs.Value.{graph-of}
 use Rattle.judge.specs.Sound.{Sound}
+use Rattle.formula.specs.Lists.{raised-in}
 use Rattle.machine.specs.declared.State.{State}
 use Rattle.machine.specs.States.{mark, next-node}
 use Rattle.machine.specs.Calls.{edge-found, to-see, marks-left, opened-state, with-marks, found-state, next-position, fired-state}
@@ -65,7 +66,7 @@ module _ (pl : Plan) (sound : Sound pl) (st : State) (s : List ℕ) (f : Follows
 
   -- a look that waits
   pub wait-follows : Follows pl sound (with-marks st (st .marks)) s
-  unfolding with-marks mark
+  unfolding with-marks
   wait-follows = record { kept = wait-kept pl (sound .shape) st (f .kept); stands = f .stands }
 
   -- a look that finds
@@ -152,7 +153,7 @@ module _ (pl : Plan) (sound : Sound pl) (st : State) (s : List ℕ) (f : Follows
   -- fire
   pub fire-follows : (p : ℕ) → p < pl .processes → at (st .opened) p ≢ 0 → marks-left st p ≡ 0
       → Follows pl sound (fired-state pl st p (next-node pl st p)) (s ++ (next-node pl st p ∷ []))
-  unfolding fired-state mark
+  unfolding fired-state raised-in
   fire-follows p h o z =
       let v = next-node pl st p in
       let t = next-node-is pl sound st (f .kept) p h in

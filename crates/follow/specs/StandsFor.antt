@@ -38,7 +38,7 @@ module _ (pl : Plan) (sound : Sound pl) where
 
   -- it is that
   pub next-node-is : (st : State) → Kept pl st → (p : ℕ) → p < pl .processes → NextNode st p
-  unfolding next-node seats seats-of
+  unfolding next-node node-at seats seats-of
   next-node-is st kept p h =
       let S = seats pl sound in
       let position : ℕ = at (st .positions) p in
@@ -53,7 +53,7 @@ module _ (pl : Plan) (sound : Sound pl) where
   -- an edge whose end is next leads to its process's next node
   pub destination-is : (st : State) (e : ℕ) → e < graph-of pl .edges → Next (graph-of pl) (seats pl sound) (at (st .positions)) (graph-of pl .destination e)
       → graph-of pl .destination e ≡ next-node pl st (seats pl sound .home (graph-of pl .destination e))
-  unfolding next-node seats seats-of
+  unfolding next-node node-at seats seats-of
   destination-is st e h next =
       let S = seats pl sound in
       let n = graph-of pl .destination e in

@@ -19,7 +19,7 @@ pub record SeatsOk (order : List ℕ) (start seat : ℕ) : Type 0 where
   pub within : start + seat ≤ 64
   pub entry-lt : (j : ℕ) → j < seat → at order (start + j) < 64
 
--- the increments to x's counter by nodes earlier in x's process round
+-- "the increments to that counter by nodes earlier in x's process round"
 unfoldable pub earlier-in : List ℕ → List ℕ → List ℕ → List ℕ → ℕ → ℕ → ℕ → ℕ
 earlier-in order lengths counter increment nodes processes x =
     shares-in order counter increment (at counter x) (base lengths (home-of order lengths nodes processes x))
@@ -32,7 +32,7 @@ pub record PlacedOk (order : List ℕ) (nodes processes x : ℕ) : Type 0 where
   pub node-lt : x < 64
   pub order-lt : (i : ℕ) → i < nodes → at order i < 64
 
--- b(x)
+-- "let b(x) be the counter of x less the increments to that counter by nodes earlier in x's process round, modulo N"
 unfoldable pub b-in : List ℕ → List ℕ → List ℕ → List ℕ → List ℕ → ℕ → ℕ → ℕ → ℕ → ℕ
 b-in order lengths counter increment counters nodes processes modulus x =
     less-earlier modulus (at counters (at counter x)) (earlier-in order lengths counter increment nodes processes x)
@@ -55,7 +55,7 @@ pub record FormulaOk (q n tokens b-one b-other : ℕ) : Type 0 where
   pub other-lt : b-other < n
 
 -- ---- a firing's counters
--- the counters after a firing of node v
+-- "adds the node's increment to its counter modulo N": the counters after a firing of node v
 unfoldable pub raised-in : List ℕ → List ℕ → List ℕ → ℕ → ℕ → List ℕ
 raised-in counter increment counters modulus v = set counters (at counter v) ((at counters (at counter v) + at increment v) % modulus)
 

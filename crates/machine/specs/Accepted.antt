@@ -7,6 +7,7 @@ use native.Mathlib.Omega.{arith}
 use lib.Dec.{eqb, ltb}
 use Rattle.loops.specs.Choice.{at}
 use Rattle.plan.specs.declared.Plan.{Plan}
+use Rattle.plan.specs.Value.{node-at}
 use Rattle.plan.specs.Faults.{InShape}
 use Rattle.plan.specs.Tables.{Tabled}
 use Rattle.plan.specs.Formed.{formed}
@@ -58,7 +59,7 @@ module _ (pl : Plan) (shape : InShape pl) (st : State) (ok : StateInShape pl st)
       (λ t. inr (inr (inr (inl (_, refl, waits-changes pl st sized (c .process) k)))))
 
   fires-it : c .process < pl .processes → Either (do-fire pl st (c .process))
-  unfolding Either Changed do-fire next-node
+  unfolding Either Changed do-fire next-node node-at
   fires-it h =
       let v = next-node pl st (c .process) in
       let known : v < pl .nodes = node-at-lt pl tables (c .process) (at (st .positions) (c .process)) h (ok .position-lt (c .process) h) in

@@ -1,58 +1,53 @@
 -- Every call by cases: what holds of a refusal, and of each call that is not refused, holds of every call's result.
 -- Assumes nothing.
-use mathlib.Core.Path.{_≡_, _∙_}
+use mathlib.Core.Path.{_≡_}
 use mathlib.Core.Bool.{true, false}
 use mathlib.Core.Logic.{_≢_}
 use Prim.Native.Nat.{ℕ, _<_}
 use native.Mathlib.Omega.{arith}
-use borrow.Author.Tests.{leb-false, eqb-true, eqb-false, lt-leb, eq-eqb, ne-eqb}
-use lib.Dec.{eqb, ltb, leb}
-use Rattle.loops.specs.Choice.{at, if, if-true, if-false}
+use borrow.Author.Tests.{eqb-true, eq-eqb}
+use lib.Dec.{eqb, ltb}
+use Rattle.loops.specs.Choice.{at, if, if-true}
 use Rattle.plan.specs.declared.Plan.{Plan}
-use Rattle.plan.specs.Formed.{past}
+use Rattle.refusals.specs.Known.{open-known, open-25, look-known, look-25, fire-known, fire-25}
 use Rattle.machine.specs.declared.State.{State}
 use Rattle.machine.specs.declared.Turned.{Turned}
 use Rattle.machine.specs.States.{mark}
-use Rattle.machine.specs.Calls.{marks-left, do-open, do-look, do-fire, refused, marked, open-in-shape, look-in-shape, fire-in-shape, both-fit, step-in-shape, step-call}
+use Rattle.machine.specs.Calls.{marks-left, do-open, do-look, do-fire, refused, unless-refused, open-in-shape, look-in-shape, fire-in-shape, both-fit, step-in-shape, step-call}
 use Rattle.machine.specs.Runs.{Call, turn}
 use Rattle.machine.specs.ByTest.{if-either}
 
--- a marked edge is known, and its mark is 1
-pub marked-means : (pl : Plan) (st : State) (p e : ℕ) → marked pl st p e ≡ true → (e < pl .edges) × (mark st p e ≡ 1)
-unfolding marked
-marked-means pl st p e t =
-    let r = past (leb (pl .edges) e) (eqb (mark st p e) 1) t in
-    (leb-false (pl .edges) e (r .0), eqb-true (mark st p e) 1 (r .1))
+-- a call that is not turned down
+pub accepts : (number : ℕ) (st : State) (t : Turned) → number ≡ 0 → unless-refused number st t ≡ t
+unfolding unless-refused
+accepts number st t z = if-true (eqb number 0) _ _ (eq-eqb number 0 z)
 
 module _ (pl : Plan) (st : State) (P : Turned → Type 0) (refuses-it : (number : ℕ) → number ≢ 25 → P (refused number st)) where
+  -- by the number that it is turned down with
+  by-number : (number : ℕ) (t : Turned) → number ≢ 25 → (number ≡ 0 → P t) → P (unless-refused number st t)
+  unfolding unless-refused
+  by-number number t d accepted = if-either P (eqb number 0) _ _ (λ y. accepted (eqb-true number 0 y)) (λ y. refuses-it number d)
+
   -- an open call
   pub open-cases : (p : ℕ) → (p < pl .processes → at (st .opened) p ≡ 0 → P (do-open pl st p)) → P (open-in-shape pl st p)
   unfolding open-in-shape
   open-cases p opens =
-      if-either P (leb (pl .processes) p) _ _ (λ y. refuses-it 20 (omega arith))
-      (λ y. if-either P (eqb (at (st .opened) p) 0) _ _ (λ x. opens (leb-false (pl .processes) p y) (eqb-true (at (st .opened) p) 0 x))
-      (λ x. refuses-it 21 (omega arith)))
+      by-number _ _ (open-25 (pl .processes) (st .opened) p) (λ z. let k = open-known (pl .processes) (st .opened) p .0 z in opens (k .0) (k .1))
 
   -- a look
   pub look-cases : (p e : ℕ) → (p < pl .processes → at (st .opened) p ≢ 0 → e < pl .edges → mark st p e ≡ 1 → P (do-look pl st p e))
       → P (look-in-shape pl st p e)
   unfolding look-in-shape
   look-cases p e looks =
-      if-either P (leb (pl .processes) p) _ _ (λ y. refuses-it 20 (omega arith))
-      (λ y. if-either P (eqb (at (st .opened) p) 0) _ _ (λ x. refuses-it 22 (omega arith))
-      (λ x. if-either P (marked pl st p e) _ _
-      (λ w. let m = marked-means pl st p e w in looks (leb-false (pl .processes) p y) (eqb-false (at (st .opened) p) 0 x) (m .0) (m .1))
-      (λ w. refuses-it 23 (omega arith))))
+      by-number _ _ (look-25 (pl .processes) (st .opened) p (st .marks) (pl .edges) e)
+      (λ z. let k = look-known (pl .processes) (st .opened) p (st .marks) (pl .edges) e .0 z in looks (k .0) (k .1) (k .2) (k .3))
 
   -- a fire call
   pub fire-cases : (p : ℕ) → (p < pl .processes → at (st .opened) p ≢ 0 → marks-left st p ≡ 0 → P (do-fire pl st p)) → P (fire-in-shape pl st p)
-  unfolding fire-in-shape
+  unfolding fire-in-shape marks-left
   fire-cases p fires =
-      if-either P (leb (pl .processes) p) _ _ (λ y. refuses-it 20 (omega arith))
-      (λ y. if-either P (eqb (at (st .opened) p) 0) _ _ (λ x. refuses-it 22 (omega arith))
-      (λ x. if-either P (eqb (marks-left st p) 0) _ _
-      (λ w. fires (leb-false (pl .processes) p y) (eqb-false (at (st .opened) p) 0 x) (eqb-true (marks-left st p) 0 w))
-      (λ w. refuses-it 24 (omega arith))))
+      by-number _ _ (fire-25 (pl .processes) (st .opened) p (st .marks))
+      (λ z. let k = fire-known (pl .processes) (st .opened) p (st .marks) .0 z in fires (k .0) (k .1) (k .2))
 
   module _ (opens : (p : ℕ) → p < pl .processes → at (st .opened) p ≡ 0 → P (do-open pl st p))
       (looks : (p e : ℕ) → p < pl .processes → at (st .opened) p ≢ 0 → e < pl .edges → mark st p e ≡ 1 → P (do-look pl st p e))
@@ -94,19 +89,14 @@ module _ (pl : Plan) (st : State) (p : ℕ) (h : p < pl .processes) where
   -- an open of a closed process
   pub open-accepted : at (st .opened) p ≡ 0 → open-in-shape pl st p ≡ do-open pl st p
   unfolding open-in-shape
-  open-accepted z = if-false (leb (pl .processes) p) _ _ (lt-leb (pl .processes) p h) ∙ if-true (eqb (at (st .opened) p) 0) _ _ (eq-eqb (at (st .opened) p) 0 z)
+  open-accepted z = accepts _ st _ (open-known (pl .processes) (st .opened) p .1 (h, z))
 
   -- a look at a marked edge
   pub look-accepted : (e : ℕ) → at (st .opened) p ≢ 0 → e < pl .edges → mark st p e ≡ 1 → look-in-shape pl st p e ≡ do-look pl st p e
-  unfolding look-in-shape marked
-  look-accepted e o l m =
-      if-false (leb (pl .processes) p) _ _ (lt-leb (pl .processes) p h) ∙ if-false (eqb (at (st .opened) p) 0) _ _ (ne-eqb (at (st .opened) p) 0 o)
-      ∙ if-true (if (leb (pl .edges) e) false (eqb (mark st p e) 1)) _ _
-      (if-false (leb (pl .edges) e) false (eqb (mark st p e) 1) (lt-leb (pl .edges) e l) ∙ eq-eqb (mark st p e) 1 m)
+  unfolding look-in-shape
+  look-accepted e o l m = accepts _ st _ (look-known (pl .processes) (st .opened) p (st .marks) (pl .edges) e .1 (h, o, l, m))
 
   -- a fire with no mark left
   pub fire-accepted : at (st .opened) p ≢ 0 → marks-left st p ≡ 0 → fire-in-shape pl st p ≡ do-fire pl st p
-  unfolding fire-in-shape
-  fire-accepted o z =
-      if-false (leb (pl .processes) p) _ _ (lt-leb (pl .processes) p h) ∙ if-false (eqb (at (st .opened) p) 0) _ _ (ne-eqb (at (st .opened) p) 0 o)
-      ∙ if-true (eqb (marks-left st p) 0) _ _ (eq-eqb (marks-left st p) 0 z)
+  unfolding fire-in-shape marks-left
+  fire-accepted o z = accepts _ st _ (fire-known (pl .processes) (st .opened) p (st .marks) .1 (h, o, z))

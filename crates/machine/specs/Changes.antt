@@ -8,6 +8,7 @@ use native.Mathlib.Nat.{mod-eq-of-lt}
 use lib.Seq.{getD-set-same, getD-set-other}
 use Rattle.loops.specs.Choice.{at, one-if}
 use Rattle.plan.specs.declared.Plan.{Plan}
+use Rattle.formula.specs.Lists.{raised-in}
 use Rattle.machine.specs.declared.State.{State}
 use Rattle.machine.specs.States.{mark, next-node, Sized}
 use Rattle.machine.specs.Calls.{raised, to-see, opened-state, with-marks, found-state, next-position, fired-state}
@@ -93,7 +94,7 @@ module _ (pl : Plan) (st : State) (sized : Sized st) (p : ℕ) (h : p < 64) wher
   waits-changes = record { positions = refl; opened = refl; counters = refl; marks = refl; turn = refl }
 
   pub fires : (v : ℕ) → at (pl .counter) v < 64 → Fires pl st p v (fired-state pl st p v)
-  unfolding fired-state
+  unfolding fired-state raised-in
   fires v l =
       record {
         marks = refl;

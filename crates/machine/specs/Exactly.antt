@@ -36,7 +36,7 @@ none-left st p = sum-zero (mark st p) 512
 module _ (st : State) (p : ℕ) where
   -- a look that waits leaves the marks
   pub marks-stay : marks-left (with-marks st (st .marks)) p ≡ marks-left st p
-  unfolding marks-left mark with-marks
+  unfolding marks-left with-marks
   marks-stay = refl
 
   -- one mark at most is another than before
@@ -56,7 +56,7 @@ module _ (st : State) (p : ℕ) where
   refused-left number left q = elim q [ inl y ↦ absurd (refused-not-found refl y) | inr y ↦ absurd (refused-not-wait refl y) ]
 
   looks-one : (pl : Plan) → Sized st → (e : ℕ) → e < 512 → OneMark e (do-look pl st p e)
-  unfolding OneMark do-look mark with-marks
+  unfolding OneMark do-look with-marks
   looks-one pl sized e h =
       if-either (OneMark e) (edge-found pl st e) _ _ (λ t r f k d. found-mark-other pl st sized p e r f h k d) (λ t r f k d. refl)
 

@@ -5,7 +5,8 @@ use Prim.Native.Nat.{ℕ}
 use lib.ListN.{length-replicate}
 use Rattle.loops.specs.Choice.{at}
 use Rattle.loops.specs.Table.{zeros-at}
-use Rattle.machine.specs.States.{spot, mark, fresh, Sized}
+use Rattle.rows.specs.Lists.{spot}
+use Rattle.machine.specs.States.{mark, fresh, Sized}
 
 -- first positions
 pub fresh-position : (p : ℕ) → at (fresh .positions) p ≡ 0
@@ -24,7 +25,7 @@ fresh-counter c = zeros-at 64 c
 
 -- nothing marked
 pub fresh-mark : (p e : ℕ) → mark fresh p e ≡ 0
-unfolding fresh mark
+unfolding fresh
 fresh-mark p e = zeros-at 32768 (spot p e)
 
 -- the lengths of its lists

@@ -16,6 +16,7 @@ use Rattle.plan.specs.Faults.{InShape}
 use Rattle.plan.specs.Tables.{Tabled}
 use Rattle.plan.specs.Formed.{formed}
 use Rattle.plan.specs.Seating.{node-at-lt}
+use Rattle.formula.specs.Lists.{raised-in}
 use Rattle.machine.specs.declared.State.{State}
 use Rattle.machine.specs.States.{mark, next-node, fresh, Sized}
 use Rattle.machine.specs.Calls.{to-see, marks-left, opened-state, with-marks, found-state, next-position, fired-state}
@@ -43,7 +44,7 @@ in-range-set limit count entries i x l h b k r =
 -- a mark stays in order where it stays, its process stays open and at its position
 fits-kept : (pl : Plan) (st st′ : State) (p e : ℕ) → mark st′ p e ≡ mark st p e → at (st′ .opened) p ≡ at (st .opened) p
     → at (st′ .positions) p ≡ at (st .positions) p → MarkFits pl st p e → MarkFits pl st′ p e
-unfolding next-node
+unfolding next-node node-at
 fits-kept pl st st′ p e same is-open stands f =
     record {
       flag = omega (arith, f .flag);
@@ -75,7 +76,7 @@ module _ (pl : Plan) (shape : InShape pl) where
 
   -- the next node of a process is a node
   pub next-node-lt : (st : State) → Parts pl st → (p : ℕ) → p < pl .processes → next-node pl st p < pl .nodes
-  unfolding next-node
+  unfolding next-node node-at
   next-node-lt st parts p h = node-at-lt pl tables p (at (st .positions) p) h (parts .positions p (omega (arith, tables .counts)) .known h)
 
   -- a fresh state is in shape
@@ -155,7 +156,7 @@ module _ (pl : Plan) (shape : InShape pl) where
 
     -- a look that waits
     pub wait-kept : Kept pl (with-marks st (st .marks))
-    unfolding with-marks mark
+    unfolding with-marks
     wait-kept =
         record {
           parts = record {
@@ -196,7 +197,7 @@ module _ (pl : Plan) (shape : InShape pl) where
 
     -- fire
     pub fire-kept : (p : ℕ) → p < pl .processes → marks-left st p ≡ 0 → Kept pl (fired-state pl st p (next-node pl st p))
-    unfolding fired-state marks-left mark
+    unfolding fired-state raised-in marks-left
     fire-kept p h z =
         record {
           parts = record {

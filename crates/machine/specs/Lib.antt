@@ -27,6 +27,8 @@ pub mod Accepted
 -- entries past the counts are not used; each promise leaves room for one answer
 pub mod Agreeing
 pub mod Unique
--- what the code needs: indices in range, equal records and lists
+-- what the code needs: indices in range; rows, what a function hands to another, and a call over lent lists
 pub mod InRange
 pub mod Same
+pub mod Handed
+pub mod Stepping

@@ -17,6 +17,7 @@ use Rattle.plan.specs.Faults.{InShape}
 use Rattle.plan.specs.Tests.{synchronises, plan-fits}
 use Rattle.plan.specs.Formed.{formed, past, fits-exactly}
 use Rattle.plan.specs.Seating.{synchronises-exactly}
+use Rattle.rows.specs.Lists.{row-above}
 use Rattle.machine.specs.declared.State.{State}
 use Rattle.machine.specs.States.{mark, next-node, StateInShape}
 use Rattle.machine.specs.Calls.{to-see, mark-allowed, row-excess, position-bad, opened-bad, counter-bad, state-fits, both-fit}
@@ -83,7 +84,7 @@ module _ (pl : Plan) (shape : InShape pl) where
 
     -- no mark of a process's row is above what it may be exactly where each is in order
     row-fits : (p : ℕ) → (row-excess pl st p ≡ 0) ↔ ((e : ℕ) → e < 512 → MarkFits pl st p e)
-    unfolding row-excess
+    unfolding row-excess row-above
     row-fits p = (
       λ z e h.
           let l : mark st p e ≤ mark-allowed pl st p e =

@@ -6,8 +6,10 @@ use lib.ListN.{length-set}
 use Rattle.loops.specs.Choice.{at, one-if}
 use Rattle.loops.specs.Row.{stored-length}
 use Rattle.plan.specs.declared.Plan.{Plan}
+use Rattle.formula.specs.Lists.{raised-in}
+use Rattle.rows.specs.Lists.{spot}
 use Rattle.machine.specs.declared.State.{State}
-use Rattle.machine.specs.States.{spot, next-node, Sized}
+use Rattle.machine.specs.States.{next-node, Sized}
 use Rattle.machine.specs.Calls.{to-see, opened-state, with-marks, found-state, fired-state}
 
 module _ (pl : Plan) (st : State) (sized : Sized st) where
@@ -46,7 +48,7 @@ module _ (pl : Plan) (st : State) (sized : Sized st) where
 
   -- a fire
   pub fire-sized : (p v : ℕ) → Sized (fired-state pl st p v)
-  unfolding fired-state
+  unfolding fired-state raised-in
   fire-sized p v =
       record {
         positions-length = length-set (st .positions) p _ ∙ sized .positions-length;

@@ -1,29 +1,31 @@
 -- The run's state and its shape (01, "Running a plan"). Definitions only.
 -- Assumes nothing.
 use mathlib.Core.Path.{_≡_}
+use mathlib.Core.List.{List}
 use mathlib.Core.Logic.{_≢_}
-use Prim.Native.Nat.{ℕ, _+_, _*_, _≤_, _<_}
+use Prim.Native.Nat.{ℕ, _≤_, _<_}
 use lib.ListN.{length, replicate}
 use Rattle.loops.specs.Choice.{at}
 use Rattle.plan.specs.declared.Plan.{Plan}
-use Rattle.plan.specs.Value.{node-at, Synchronising}
+use Rattle.plan.specs.Value.{Synchronising}
+use Rattle.rows.specs.Lists.{spot, next-in}
 use Rattle.machine.specs.declared.State.{State}
 
--- where the mark of edge e stands in process p's row: 64 rows of 512 marks as one list
-unfoldable pub spot : ℕ → ℕ → ℕ
-spot p e = 512 * p + e
+-- the state of a run's lists and a turn number
+abbrev pub state-with : (positions opened marks counters : List ℕ) (turn : ℕ) → State
+state-with positions opened marks counters turn = record { positions = positions; opened = opened; marks = marks; counters = counters; turn = turn }
 
 -- process p's mark of edge e
-unfoldable pub mark : State → ℕ → ℕ → ℕ
+abbrev pub mark : State → ℕ → ℕ → ℕ
 mark st p e = at (st .marks) (spot p e)
 
 -- the next node of process p
 unfoldable pub next-node : Plan → State → ℕ → ℕ
-next-node pl st p = node-at pl p (at (st .positions) p)
+next-node pl st p = next-in (pl .order) (pl .lengths) (st .positions) p
 
 -- "Fresh: first positions, all closed, nothing marked, all counters 0, turn 0."
 unfoldable pub fresh : State
-fresh = record { positions = replicate 64 0; opened = replicate 64 0; marks = replicate 32768 0; counters = replicate 64 0; turn = 0 }
+fresh = state-with (replicate 64 0) (replicate 64 0) (replicate 32768 0) (replicate 64 0) 0
 
 -- a state as the program holds it: the lengths of its lists
 pub record Sized (st : State) : Type 0 where

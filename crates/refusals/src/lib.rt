@@ -1,7 +1,7 @@
 // Turned-down calls, tested in 01's order: the number, or 0 where the call is accepted.
 ghost use mathlib.Core.Path.{_≡_};
 ghost use Prim.Native.Nat.{_<_, _≤_};
-ghost use Rattle.refusals.specs.Numbers.{marked-in, open-number, look-number, fire-number};
+ghost use Rattle.refusals.specs.Numbers.{marked-in, open-number, look-number, fire-number, call-number};
 
 // Edge e is marked for process p.
 fn is_marked(marks: &[u8; 32768], edges: u16, p: usize, edge: u32) -> bool
@@ -71,4 +71,29 @@ pub fn of_fire<'a>(
     } else {
         24
     }
+}
+
+// A call by its code, 0 open, 1 look, 2 fire: a code above 2 is turned down with 26.
+pub fn of_call<'a>(
+    processes: u16,
+    edges: u16,
+    opened: &'a [u8; 64],
+    marks: &'a [u8; 32768],
+    code: u32,
+    process: u32,
+    edge: u32,
+) -> u32
+    requires { ⌜ (processes ≤ 64) × (edges ≤ 512) ⌝ }
+    ensures { λ r. ⌜ r ≡ call-number processes edges (now (opened .entry)) (now (marks .entry)) code process edge ⌝ }
+{
+    if code == 0 {
+        return of_open(processes, opened, process);
+    }
+    if code == 1 {
+        return of_look(processes, edges, opened, marks, process, edge);
+    }
+    if code == 2 {
+        return of_fire(processes, opened, marks, process);
+    }
+    26
 }

@@ -11,8 +11,8 @@ use Rattle.loops.specs.Table.{padded}
 use Rattle.plan.specs.Value.{base}
 
 -- ---- next nodes and edges to see
--- the next node of process p
-unfoldable pub next-in : List ℕ → List ℕ → List ℕ → ℕ → ℕ
+-- the next node of process p: where its position stands in the firing order
+abbrev pub next-in : List ℕ → List ℕ → List ℕ → ℕ → ℕ
 next-in order lengths positions p = at order (base lengths p + at positions p)
 
 -- each stands in the order
@@ -30,23 +30,23 @@ unfoldable pub allowed-row : List ℕ → List ℕ → List ℕ → List ℕ →
 allowed-row opened nexts destination crossing processes edges p =
     if (leb processes p) (replicate 512 0) (if (ltb 0 (at opened p)) (padded (wanted destination crossing (at nexts p)) 512 edges) (replicate 512 0))
 
--- how many marks of process p's row are above a row
-unfoldable pub row-above : List ℕ → List ℕ → ℕ → ℕ
-row-above allowed marks p = sum (λ e. one-if (ltb (at allowed e) (at marks (512 * p + e)))) 512
+-- where the mark of edge e stands in process p's row: 64 rows of 512 marks as one list
+abbrev pub spot : ℕ → ℕ → ℕ
+spot p e = 512 * p + e
+
+-- how many marks of process p's row are above what they may be
+unfoldable pub row-above : (ℕ → ℕ) → List ℕ → ℕ → ℕ
+row-above allowed marks p = sum (λ e. one-if (ltb (allowed e) (at marks (spot p e)))) 512
 
 -- how many marks of all rows are above what they may be
 unfoldable pub rows-above : List ℕ → List ℕ → List ℕ → List ℕ → List ℕ → ℕ → ℕ → ℕ
 rows-above marks opened nexts destination crossing processes edges =
-    sum (λ p. row-above (allowed-row opened nexts destination crossing processes edges p) marks p) 64
+    sum (λ p. row-above (at (allowed-row opened nexts destination crossing processes edges p)) marks p) 64
 
 -- how many marks process p's row has
-unfoldable pub row-left : List ℕ → ℕ → ℕ
-row-left marks p = sum (λ e. at marks (512 * p + e)) 512
-
--- what a row adds up to
-unfoldable pub row-total : List ℕ → ℕ → ℕ
-row-total row edges = sum (at row) edges
+abbrev pub row-left : List ℕ → ℕ → ℕ
+row-left marks p = sum (λ e. at marks (spot p e)) 512
 
 -- the marks with a row stored for process p
-unfoldable pub with-row : List ℕ → List ℕ → ℕ → ℕ → List ℕ
-with-row marks row edges p = stored (at row) (512 * p) marks edges
+abbrev pub with-row : List ℕ → (ℕ → ℕ) → ℕ → ℕ → List ℕ
+with-row marks row edges p = stored row (512 * p) marks edges

@@ -3,9 +3,10 @@ ghost use mathlib.Core.Path.{_≡_};
 ghost use Prim.Native.Nat.{_+_, _<_, _≤_};
 ghost use lib.Dec.{ltb};
 ghost use Rattle.loops.specs.Choice.{at, one-if};
+ghost use Rattle.loops.specs.Sum.{sum};
 ghost use Rattle.loops.specs.Table.{padded};
 ghost use Rattle.plan.specs.Value.{base};
-ghost use Rattle.rows.specs.Lists.{NextsOk, next-in, wanted, allowed-row, row-above, rows-above, row-left, row-total, with-row};
+ghost use Rattle.rows.specs.Lists.{NextsOk, next-in, wanted, allowed-row, row-above, rows-above, row-left, with-row};
 
 // The next node of a process.
 pub fn next_node<'a>(
@@ -103,7 +104,7 @@ fn above(allowed: u8, mark: u8) -> u16
 // How many marks of a process's row are above what they may be.
 fn row_above<'a>(allowed: &'a [u8; 512], marks: &'a [u8; 32768], p: usize) -> u16
     requires { ⌜ p < 64 ⌝ }
-    ensures { λ r. ⌜ (r ≡ row-above (now (allowed .entry)) (now (marks .entry)) p) × (r ≤ 512) ⌝ }
+    ensures { λ r. ⌜ (r ≡ row-above (at (now (allowed .entry))) (now (marks .entry)) p) × (r ≤ 512) ⌝ }
 {
     let base = 512 * p;
     let mut excess: u16 = 0;
@@ -127,7 +128,7 @@ fn row_excess<'a>(
     p: usize,
 ) -> u16
     requires { ⌜ (p < 64) × (edges ≤ 512) ⌝ }
-    ensures { λ r. ⌜ (r ≡ row-above (allowed-row (now (opened .entry)) (now (nexts .entry)) (now (destination .entry)) (now (crossing .entry)) processes edges p) (now (marks .entry)) p) × (r ≤ 512) ⌝ }
+    ensures { λ r. ⌜ (r ≡ row-above (at (allowed-row (now (opened .entry)) (now (nexts .entry)) (now (destination .entry)) (now (crossing .entry)) processes edges p)) (now (marks .entry)) p) × (r ≤ 512) ⌝ }
 {
     let allowed = allowed_row(opened, nexts, destination, crossing, processes, edges, p);
     row_above(&allowed, marks, p)
@@ -167,7 +168,7 @@ pub fn rows_excess<'a>(
 // How many edges of a row are wanted.
 pub fn row_sum(row: &[u8; 512], edges: usize) -> u32
     requires { ⌜ edges ≤ 512 ⌝ }
-    ensures { λ r. ⌜ r ≡ row-total (now (row .entry)) edges ⌝ }
+    ensures { λ r. ⌜ r ≡ sum (at (now (row .entry))) edges ⌝ }
 {
     let mut total: u32 = 0;
     let mut e: usize = 0;
@@ -196,7 +197,7 @@ pub fn marks_left(marks: &[u8; 32768], p: usize) -> u32
 // Marks the wanted edges in a process's row.
 pub fn mark_row<'a>(marks: &'a mut [u8; 32768], row: &'a [u8; 512], edges: usize, p: usize)
     requires { ⌜ (p < 64) × (edges ≤ 512) ⌝ }
-    ensures { λ r. ⌜ now (marks .exit) ≡ with-row (now (marks .entry)) (now (row .entry)) edges p ⌝ }
+    ensures { λ r. ⌜ now (marks .exit) ≡ with-row (now (marks .entry)) (at (now (row .entry))) edges p ⌝ }
 {
     let base = 512 * p;
     let mut e: usize = 0;

@@ -16,11 +16,9 @@ use Rattle.plan.specs.Faults.{InShape}
 use Rattle.bytes.specs.LittleEndian.{two-bytes}
 use Rattle.machine.specs.declared.State.{State}
 use Rattle.machine.specs.declared.Turned.{Turned}
-use Rattle.machine.specs.declared.Began.{Began}
 use Rattle.machine.specs.States.{fresh, Sized, StateInShape}
-use Rattle.machine.specs.Calls.{both-fit, refused, open-in-shape, look-in-shape, fire-in-shape, step-in-shape, step-call, begin-run}
+use Rattle.machine.specs.Calls.{both-fit, refused, open-in-shape, look-in-shape, fire-in-shape, step-in-shape, step-call}
 use Rattle.machine.specs.Runs.{Call, turn, replies}
-use Rattle.machine.specs.Theorems.{begins}
 use Rattle.machine.specs.ShapeTest.{both-fit-exactly}
 use Rattle.machine.specs.KeptByCalls.{fresh-kept}
 use Rattle.machine.specs.ShapeKept.{kept-exactly, shape-kept-in-shape}
@@ -117,16 +115,17 @@ pub record Running (pl : Plan) (calls out₀ : List ℕ) (place₀ index i : ℕ
   pub whole : (m : List ℕ) (j : ℕ) → Put out place (calls-text pl st index (drop i calls)) m j → Put out₀ place₀ (calls-text pl fresh 0 calls) m j
 
 module _ (pl : Plan) (shape : InShape pl) (calls out₀ : List ℕ) (place₀ : ℕ) where
-  -- before the first call: a run begun is fresh
-  pub running-begin : (began : Began) → began ≡ begin-run pl → Running pl calls out₀ place₀ 0 0 (began .state) out₀ place₀
-  running-begin began e = rw (e, begins pl shape) (record {
-    index-is = refl;
-    within = omega arith;
-    in-shape = kept-exactly pl shape fresh .0 (fresh-kept pl shape) .0;
-    sized = kept-exactly pl shape fresh .0 (fresh-kept pl shape) .1;
-    few = omega arith;
-    whole = λ m j p. p;
-  })
+  -- before the first call, on a fresh state
+  pub running-begin : Running pl calls out₀ place₀ 0 0 fresh out₀ place₀
+  running-begin =
+      record {
+        index-is = refl;
+        within = omega arith;
+        in-shape = kept-exactly pl shape fresh .0 (fresh-kept pl shape) .0;
+        sized = kept-exactly pl shape fresh .0 (fresh-kept pl shape) .1;
+        few = omega arith;
+        whole = λ m j p. p;
+      }
 
   -- a call: its line is put
   pub running-more : {index i place n : ℕ} {st : State} {out after : List ℕ} (turned : Turned) → Running pl calls out₀ place₀ index i st out place

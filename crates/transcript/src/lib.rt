@@ -2,6 +2,7 @@
 ghost use mathlib.Core.Path.{_≡_};
 ghost use Prim.Native.Nat.{_+_, _<_, _≤_};
 ghost use lib.ListN.{length};
+ghost use Rattle.plan.specs.Value.{plan-with};
 ghost use Rattle.plan.specs.Faults.{InShape};
 ghost use Rattle.bytes.specs.LittleEndian.{four-bytes};
 ghost use Rattle.machine.specs.States.{fresh};
@@ -10,7 +11,6 @@ ghost use Rattle.bytes.specs.Writing.{Put};
 ghost use Rattle.transcript.specs.Running.{cut-if};
 ghost use Rattle.transcript.specs.Printing.{Answers};
 use judge::Answer;
-use plan::Plan;
 
 // What `transcript` answers: the length of the text that it wrote, or the length that the buffer is too short for.
 pub enum Printed {
@@ -54,27 +54,64 @@ fn put_left_over(out: &mut [u8], place: usize, left: usize) -> usize
     bytes::text::put_word(out, place, b"cut\n")
 }
 
-// The calls of four bytes: code, process, edge (two bytes). The run begins from an accepted plan; each call keeps the shape, so none is tested.
-fn put_calls(plan: Plan, calls: &[u8], out: &mut [u8], place: usize) -> usize
-    requires { ⌜ InShape plan × (length (now calls) ≤ 65536) × (place ≤ 38) ⌝ }
-    ensures { λ r. ⌜ Put (now (out .entry)) place (calls-text plan fresh 0 (now (calls .entry))) (now (out .exit)) r × (r ≤ 409642) ⌝ }
+// The calls of four bytes: code, process, edge (two bytes). The run begins from an accepted plan, fresh; each call keeps the shape, so none is tested.
+fn put_calls<'a>(
+    nodes: u16,
+    processes: u16,
+    edges: u16,
+    counts: u16,
+    modulus: u32,
+    q: u32,
+    lengths: &'a [u16; 64],
+    order: &'a [u16; 64],
+    counter: &'a [u16; 64],
+    increment: &'a [u16; 64],
+    source: &'a [u16; 512],
+    destination: &'a [u16; 512],
+    tokens: &'a [u16; 512],
+    calls: &[u8],
+    out: &mut [u8],
+    place: usize,
+) -> usize
+    requires { ⌜ InShape (plan-with nodes processes edges counts modulus q (now lengths) (now order) (now counter) (now increment) (now source) (now destination) (now tokens)) × (length (now calls) ≤ 65536) × (place ≤ 38) ⌝ }
+    ensures { λ r. ⌜ Put (now (out .entry)) place (calls-text (plan-with nodes processes edges counts modulus q (now (lengths .entry)) (now (order .entry)) (now (counter .entry)) (now (increment .entry)) (now (source .entry)) (now (destination .entry)) (now (tokens .entry))) fresh 0 (now (calls .entry))) (now (out .exit)) r × (r ≤ 409642) ⌝ }
 {
-    let began = calls::begin(plan);
-    let mut state = began.state;
+    let mut positions = [0u16; 64];
+    let mut opened = [0u8; 64];
+    let mut marks = [0u8; 32768];
+    let mut counters = [0u32; 64];
+    let mut turn: u32 = 0;
     let mut next = place;
     let mut index: u32 = 0;
     let mut i: usize = 0;
     while i + 4 <= calls.len() {
-        let turned = machine::step_in_shape(
-            plan,
-            state,
-            bytes::byte_to_word(calls[i]),
-            bytes::byte_to_word(calls[i + 1]),
-            bytes::to_word(bytes::pair_at(calls, i + 2)),
+        let code = bytes::byte_to_word(calls[i]);
+        let process = bytes::byte_to_word(calls[i + 1]);
+        let edge = bytes::to_word(bytes::pair_at(calls, i + 2));
+        let reply = machine::step_in_shape(
+            nodes,
+            processes,
+            edges,
+            counts,
+            modulus,
+            q,
+            lengths,
+            order,
+            counter,
+            increment,
+            source,
+            destination,
+            tokens,
+            &mut positions,
+            &mut opened,
+            &mut marks,
+            &mut counters,
+            &mut turn,
+            code,
+            process,
+            edge,
         );
-        let reply = turned.reply;
         next = lines::put_line(out, next, index, reply);
-        state = turned.state;
         index += 1;
         i += 4;
     }
@@ -94,7 +131,24 @@ fn put_run(input: &[u8], out: &mut [u8]) -> usize
         return lines::put_refusal(out, answer);
     };
     let next = lines::put_plan_line(out, q, modulus, least);
-    put_calls(plan, &input[end..], out, next)
+    put_calls(
+        plan.nodes,
+        plan.processes,
+        plan.edges,
+        plan.counters,
+        plan.modulus,
+        plan.q,
+        &plan.lengths,
+        &plan.order,
+        &plan.counter,
+        &plan.increment,
+        &plan.source,
+        &plan.destination,
+        &plan.tokens,
+        &input[end..],
+        out,
+        next,
+    )
 }
 
 // The text: with more than 65,536 bytes `too long` only.

@@ -1,6 +1,6 @@
 -- `calls::begin` meets its contract. Assumes nothing.
 use borrow.Author.Needs.{needs}
-use Rattle.machine.specs.Same.{begun, begun-not}
+use Rattle.machine.specs.Stepping.{begun, begun-not}
 use Rattle.calls.proofs.begin.Statement.{statement}
 use Rattle.calls.proofs.begin.Tie as tie
 

@@ -1,13 +1,13 @@
 -- `calls::both_fit` meets its contract. Assumes nothing.
 use borrow.Author.Needs.{needs}
-use Rattle.loops.specs.Choice.{ifs, flags, flag-true}
+use Rattle.loops.specs.Choice.{ifs, flags}
 use Rattle.machine.specs.Calls.{both-fit}
 use Rattle.machine.specs.InRange.{plan-ok}
 use Rattle.calls.proofs.both_fit.Statement.{statement}
 use Rattle.calls.proofs.both_fit.Tie as tie
 
 state-fits-requires : tie.Need-state-fits-requires
-state-fits-requires c κs = search (needs, flag-true, plan-ok)
+state-fits-requires c κs = search (needs, plan-ok)
 
 returns : tie.Need-returns
 unfolding both-fit

@@ -1,30 +1,23 @@
 -- `machine::do_look` meets its contract. Assumes nothing.
 use borrow.Author.Needs.{needs}
-use Rattle.machine.specs.Calls.{raised}
-use Rattle.machine.specs.Same.{found-turn, wait-turn}
+use mathlib.Core.Path.{refl, ap}
+use Rattle.loops.specs.Choice.{if-yes, if-no}
+use Rattle.machine.specs.declared.Reply.the-variants.{Found, Wait}
 use Rattle.machine.proofs.do_look.Statement.{statement}
 use Rattle.machine.proofs.do_look.Tie as tie
 
 returns : tie.Need-returns
-unfolding raised
-returns c = let at-if1 = c .before .before .before in
-    let at-edge-found = at-if1 .before in
-    let at-wrapping-add-u32 = at-edge-found .before .before .before in
-    found-turn _ _ _ _ _ _ _ (at-edge-found .edge-found .ensures) (at-if1 .if1 .taken) (c .marks-left .ensures) (at-wrapping-add-u32 .wrapping-add-u32 .ensures)
+returns c = let found = c .before .before .if1 .taken in
+    (if-yes _ _ _ _ found (ap Found (c .marks-left .ensures)), if-yes _ _ _ _ found refl)
 
 returns-2 : tie.Need-returns-2
-unfolding raised
-returns-2 c = let at-if1 = c .before .before .before in
-    let at-edge-found = at-if1 .before in
-    let at-wrapping-add-u32 = at-edge-found .before .before .before in
-    wait-turn _ _ _ _ _ _ _ (at-edge-found .edge-found .ensures) (at-if1 .if1 .left) (c .marks-left2 .ensures) (at-wrapping-add-u32 .wrapping-add-u32 .ensures)
+returns-2 c = let waits = c .before .before .if1 .left in
+    (if-no _ _ _ _ waits (ap Wait (c .marks-left2 .ensures)), if-no _ _ _ _ waits refl)
 
 pub do-look-spec : {M : Type 1} → statement M
 do-look-spec =
     tie.close
     (tie.spec
-    (λ c κs. search needs)
-    (λ c κs. search needs)
     (λ c. search needs)
     (λ c. search needs)
     (λ c. search needs)

@@ -1,6 +1,6 @@
 -- `machine::next_position` meets its contract. Assumes nothing.
 use borrow.Author.Needs.{needs}
-use Rattle.machine.specs.Same.{last-goes, others-go}
+use Rattle.machine.specs.Stepping.{last-goes, others-go}
 use Rattle.machine.proofs.next_position.Statement.{statement}
 use Rattle.machine.proofs.next_position.Tie as tie
 

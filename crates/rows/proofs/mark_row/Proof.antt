@@ -4,7 +4,6 @@ use Prim.Native.Nat.{_-_, _*_}
 use mathlib.Core.Path.{_≡_}
 use Rattle.loops.specs.Choice.{at}
 use Rattle.loops.specs.Row.{Row, rows}
-use Rattle.rows.specs.Lists.{with-row}
 use Rattle.rows.proofs.mark_row.Statement.{statement}
 use Rattle.rows.proofs.mark_row.Tie as tie
 
@@ -15,7 +14,6 @@ abbrev μ-loop : tie.MeasureT-loop
 μ-loop marks₀ row edges p base e₀ marks e = edges - e
 
 returns : tie.Need-returns Inv-loop μ-loop
-unfolding with-row
 returns c = search (needs, rows)
 
 pub mark-row-spec : {M : Type 1} → statement M

@@ -4,7 +4,6 @@ use Prim.Native.Nat.{_+_, _-_, _*_, _≤_}
 use mathlib.Core.Path.{_≡_}
 use Rattle.loops.specs.Choice.{at}
 use Rattle.loops.specs.Sum.{Sum, sums}
-use Rattle.rows.specs.Lists.{row-left}
 use Rattle.rows.proofs.marks_left.Statement.{statement}
 use Rattle.rows.proofs.marks_left.Tie as tie
 
@@ -15,7 +14,6 @@ abbrev μ-loop : tie.MeasureT-loop
 μ-loop marks p row left₀ k₀ left k = 512 - k
 
 returns : tie.Need-returns Inv-loop μ-loop
-unfolding row-left
 returns c = search (needs, sums)
 
 pub marks-left-spec : {M : Type 1} → statement M

@@ -1,11 +1,9 @@
 -- `rows::next_node` meets its contract. Assumes nothing.
 use borrow.Author.Needs.{needs}
-use Rattle.rows.specs.Lists.{next-in}
 use Rattle.rows.proofs.next_node.Statement.{statement}
 use Rattle.rows.proofs.next_node.Tie as tie
 
 returns : tie.Need-returns
-unfolding next-in
 returns c = cc
 
 pub next-node-spec : {M : Type 1} → statement M

@@ -3,7 +3,6 @@ use borrow.Author.Needs.{needs}
 use Prim.Native.Nat.{_-_, _*_, _≤_}
 use Rattle.loops.specs.Choice.{at}
 use Rattle.loops.specs.Sum.{Sum, sums}
-use Rattle.rows.specs.Lists.{row-total}
 use Rattle.rows.proofs.row_sum.Statement.{statement}
 use Rattle.rows.proofs.row_sum.Tie as tie
 
@@ -14,7 +13,6 @@ abbrev μ-loop : tie.MeasureT-loop
 μ-loop row edges total₀ e₀ total e = edges - e
 
 returns : tie.Need-returns Inv-loop μ-loop
-unfolding row-total
 returns c = search (needs, sums)
 
 pub row-sum-spec : {M : Type 1} → statement M

@@ -1,5 +1,6 @@
 -- `rows::rows_excess` meets its contract. Assumes nothing.
 use borrow.Author.Needs.{needs}
+use Rattle.loops.specs.Choice.{at}
 use Prim.Native.Nat.{_-_, _*_, _≤_}
 use Rattle.loops.specs.Sum.{Sum, sums}
 use Rattle.rows.specs.Lists.{allowed-row, row-above, rows-above}
@@ -7,7 +8,7 @@ use Rattle.rows.proofs.rows_excess.Statement.{statement}
 use Rattle.rows.proofs.rows_excess.Tie as tie
 
 abbrev Inv-loop : tie.InvT-loop
-Inv-loop marks opened nexts destination crossing processes edges excess₀ row₀ excess row = Sum (λ k. row-above (allowed-row opened nexts destination crossing processes edges k) marks k) 64 row excess × (excess ≤ 512 * row)
+Inv-loop marks opened nexts destination crossing processes edges excess₀ row₀ excess row = Sum (λ k. row-above (at (allowed-row opened nexts destination crossing processes edges k)) marks k) 64 row excess × (excess ≤ 512 * row)
 
 abbrev μ-loop : tie.MeasureT-loop
 μ-loop marks opened nexts destination crossing processes edges excess₀ row₀ excess row = 64 - row

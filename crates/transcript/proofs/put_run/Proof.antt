@@ -20,7 +20,8 @@ returns c = let put = c .before .before in
     )
 
 put-calls-requires : tie.Need-put-calls-requires
-put-calls-requires c κs = let line = c .before .before .before .before in
+put-calls-requires c κs = let lent = c .before .before .before .before .before .before .before .before in
+    let line = lent .before .before .before .before in
     let answer = line .before .before .before in
     let read = answer .before .before .before in
     let end = read .before .before in
@@ -29,7 +30,8 @@ put-calls-requires c κs = let line = c .before .before .before .before in
 
 returns-2 : tie.Need-returns-2
 returns-2 c = let calls = c .before .before in
-    let line = calls .before .before .before .before .before in
+    let lent = calls .before .before .before .before .before .before .before .before .before in
+    let line = lent .before .before .before .before in
     let answer = line .before .before .before in
     let read = answer .before .before .before in
     let end = read .before .before in (
