@@ -4,6 +4,9 @@ use Rattle.machine.specs.Handed.{handed, crossing-from}
 use Rattle.machine.proofs.crossing.Statement.{statement}
 use Rattle.machine.proofs.crossing.Tie as tie
 
+homes-requires : tie.Need-homes-requires
+homes-requires c κs = (search needs, search needs, rw (c .before .to-index .ensures .0) (c .before .before .pre .once))
+
 crossing-row-requires : tie.Need-crossing-row-requires
 crossing-row-requires c κs = search (needs, handed)
 
@@ -16,7 +19,7 @@ crossing-spec =
     (tie.spec
     (λ c κs. search needs)
     (λ c κs. search needs)
-    (λ c κs. search needs)
+    homes-requires
     (λ c κs. search needs)
     crossing-row-requires
     returns)
