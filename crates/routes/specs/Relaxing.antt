@@ -141,9 +141,9 @@ module _ {source destination tokens : List ℕ} {edges : ℕ} {row : List ℕ} {
   stored p q r = rw (r, p, q)
 
   -- the code's turn at edge e, whose ends are s and d
-  pub relaxing-more : {s d new : ℕ} → EndsInRow source destination edges → e < edges → s ≡ at source e → d ≡ at destination e
-      → new ≡ min (at out d) (at out s + at tokens e) → Relaxing source destination tokens edges row (e + 1) (set out d new) (drop + (at out d - new))
-  relaxing-more {s} {d} {new} ends h p q r =
+  pub relaxing-more : {s d new fall : ℕ} → EndsInRow source destination edges → e < edges → s ≡ at source e → d ≡ at destination e
+      → new ≡ min (at out d) (at out s + at tokens e) → fall ≡ at out d - new → Relaxing source destination tokens edges row (e + 1) (set out d new) (drop + fall)
+  relaxing-more {s} {d} {new} {fall} ends h p q r f =
       let next : set out d new ≡ relaxed source destination tokens e out = stored p q r in
       record {
         so-far = fold-more (inv .so-far) h next;

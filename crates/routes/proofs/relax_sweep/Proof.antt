@@ -17,7 +17,8 @@ loop-again c =
     let second = c .before .before in
     let first = second .before .before in
     let turn = first .before .before .before in
-    relaxing-more (turn .loop .inv) (turn .before .pre .1) (omega arith) (first .to-index .ensures .0) (second .to-index2 .ensures .0) (c .smaller .ensures)
+    relaxing-more (turn .loop .inv) {s = first .to-index .result} (turn .before .pre .1) (omega arith) (omega (arith, first .to-index .ensures .0)) (omega (arith, second .to-index2 .ensures .0))
+    (omega (arith, c .smaller .ensures)) (omega arith)
 
 pub relax-sweep-spec : {M : Type 1} → statement M
 relax-sweep-spec =
