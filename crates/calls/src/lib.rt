@@ -1,5 +1,6 @@
 // The calls of a run, of any plan value and any state: 26 and 25 are tested first, and `machine` does the rest.
 ghost use mathlib.Core.Path.{_≡_};
+ghost use Prim.Native.Nat.{_≤_};
 ghost use Rattle.plan.specs.Value.{plan-with};
 ghost use Rattle.plan.specs.Tests.{plan-fits};
 ghost use Rattle.machine.specs.States.{state-with, fresh};
@@ -87,7 +88,7 @@ pub fn both_fit<'a>(
     false
 }
 
-// A call by its code where plan and state stand: a code above 2 is refused with 26, before all else; 25 plan or state out of shape.
+// A call by its code, at most 2, where plan and state stand: 25 plan or state out of shape.
 fn answer<'a>(
     nodes: u16,
     processes: u16,
@@ -111,11 +112,9 @@ fn answer<'a>(
     process: u32,
     edge: u32,
 ) -> Reply
+    requires { ⌜ code ≤ 2 ⌝ }
     ensures { λ r. ⌜ turned r (state-with (now (positions .exit)) (now (opened .exit)) (now (marks .exit)) (now (counters .exit)) (now (turn .exit))) ≡ step-call (plan-with nodes processes edges counts modulus q (now (lengths .entry)) (now (order .entry)) (now (counter .entry)) (now (increment .entry)) (now (source .entry)) (now (destination .entry)) (now (tokens .entry))) (state-with (now (positions .entry)) (now (opened .entry)) (now (marks .entry)) (now (counters .entry)) (now (turn .entry))) code process edge ⌝ }
 {
-    if 2 < code {
-        return Reply::Refused { number: 26 };
-    }
     if both_fit(
         nodes,
         processes,
@@ -188,10 +187,16 @@ pub fn begin(plan: Plan) -> Began
     Began { number: 25, state }
 }
 
-// A call by its code: the state's lists are lent all at once, and the state is made anew from them.
+// A call by its code: a code above 2 is refused with 26, before all else. The state's lists are lent all at once, and the state is made anew from them.
 pub fn step(plan: Plan, state: State, code: u32, process: u32, edge: u32) -> Turned
     ensures { λ r. ⌜ r ≡ step-call plan state code process edge ⌝ }
 {
+    if 2 < code {
+        return Turned {
+            reply: Reply::Refused { number: 26 },
+            state,
+        };
+    }
     let mut positions = state.positions;
     let mut opened = state.opened;
     let mut marks = state.marks;
@@ -220,16 +225,15 @@ pub fn step(plan: Plan, state: State, code: u32, process: u32, edge: u32) -> Tur
         process,
         edge,
     );
-    let after = State {
-        positions,
-        opened,
-        marks,
-        counters,
-        turn,
-    };
     Turned {
         reply,
-        state: after,
+        state: State {
+            positions,
+            opened,
+            marks,
+            counters,
+            turn,
+        },
     }
 }
 
