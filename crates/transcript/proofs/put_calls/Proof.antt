@@ -1,6 +1,6 @@
 -- `transcript::put_calls` meets its contract. Assumes nothing.
 use borrow.Author.Needs.{needs}
-use mathlib.Core.Path.{_≡_}
+use mathlib.Core.Path.{_≡_, _∙_}
 use Prim.Native.Nat.{_-_}
 use native.Mathlib.Omega.{arith}
 use lib.ListN.{length}
@@ -26,7 +26,7 @@ loop-holds c = (running-begin _ (c .before .before .pre .0) _ _ _, search needs)
 step-in-shape-requires : tie.Need-step-in-shape-requires Inv-loop μ-loop
 step-in-shape-requires c κs =
     let edge = c .before .before .before .before .before in
-    let loop = edge .before .before .before .before .before .before in
+    let loop = edge .before .before .before .before .before .before .before in
     let start = loop .before .before .before in
     (start .pre .0, loop .loop .inv .0 .in-shape)
 
@@ -62,6 +62,7 @@ put-calls-spec =
     (λ c. search needs)
     (λ c κs. search needs)
     (λ c. search needs)
+    (λ c κs. search needs)
     (λ c κs. search needs)
     step-in-shape-requires
     (λ c κs. search needs)
