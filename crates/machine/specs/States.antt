@@ -25,7 +25,7 @@ next-node pl st p = next-in (pl .order) (pl .lengths) (st .positions) p
 
 -- "Fresh: first positions, all closed, nothing marked, all counters 0, turn 0."
 unfoldable pub fresh : State
-fresh = state-with (replicate 64 0) (replicate 64 0) (replicate 32768 0) (replicate 64 0) 0
+fresh = record { positions = replicate 64 0; opened = replicate 64 0; marks = replicate 32768 0; counters = replicate 64 0; turn = 0 }
 
 -- a state as the program holds it: the lengths of its lists
 pub record Sized (st : State) : Type 0 where

@@ -32,14 +32,14 @@ returns-2 c = let at-if2 = c .before in
     let at-if1 = at-crossing .before in
     let at-word = at-if1 .before in
     let start = at-word .before in
-    reading-turn _ _ _ _ _ _ (start .pre .0) (at-crossing .crossing .ensures) (at-word .to-word .ensures .0) (at-if1 .if1 .left) (c .edge-reading .ensures) (at-if2 .if2 .taken)
+    reading-turn _ _ _ _ _ _ (start .pre .0) (at-crossing .crossing .ensures) (at-word .to-word .ensures .0) (at-if1 .if1 .left) (c .edge-reading .ensures) (search needs)
 
 returns-3 : tie.Need-returns-3
 returns-3 c = let at-crossing = c .before in
     let at-if1 = at-crossing .before in
     let at-word = at-if1 .before in
     let start = at-word .before in
-    no-reading _ _ _ 0 _ _ (start .pre .0) (at-crossing .crossing .ensures) (at-word .to-word .ensures .0) (at-if1 .if1 .left) (c .if2 .left)
+    no-reading _ _ _ 0 _ _ (start .pre .0) (at-crossing .crossing .ensures) (at-word .to-word .ensures .0) (at-if1 .if1 .left) (search needs)
 
 pub reading-in-shape-spec : {M : Type 1} → statement M
 reading-in-shape-spec =
