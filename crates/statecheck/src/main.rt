@@ -58,7 +58,15 @@ fn put_case(
     let state = record::state_in(record);
     let answered = answers::put_requests(plan, state, record, length, out, behind_number);
     let after = answered.state;
-    states::put_state(after, out, answered.place)
+    states::put_state(
+        &after.positions,
+        &after.opened,
+        &after.marks,
+        &after.counters,
+        after.turn,
+        out,
+        answered.place,
+    )
 }
 
 // Reads a record and puts its text. A record that is too long or cut, and a write that fails, end the stream.

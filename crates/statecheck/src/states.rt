@@ -4,7 +4,6 @@ ghost use Prim.Native.Nat.{_<_};
 use crate::text::put_line;
 use crate::text::put_number;
 use crate::text::put_word;
-use machine::State;
 
 // A counter that is not 0.
 fn put_counter(out: &mut [u8; 65536], place: usize, c: u32, value: u32) -> usize {
@@ -90,14 +89,16 @@ fn put_processes<'a>(
 }
 
 // A state.
-pub fn put_state(state: State, out: &mut [u8; 65536], place: usize) -> usize {
-    let behind_turn = put_line(out, place, b"turn ", state.turn);
-    let behind_counters = put_counters(&state.counters, out, behind_turn);
-    put_processes(
-        &state.positions,
-        &state.opened,
-        &state.marks,
-        out,
-        behind_counters,
-    )
+pub fn put_state<'a>(
+    positions: &'a [u16; 64],
+    opened: &'a [u8; 64],
+    marks: &'a [u8; 32768],
+    counters: &'a [u32; 64],
+    turn: u32,
+    out: &mut [u8; 65536],
+    place: usize,
+) -> usize {
+    let behind_turn = put_line(out, place, b"turn ", turn);
+    let behind_counters = put_counters(counters, out, behind_turn);
+    put_processes(positions, opened, marks, out, behind_counters)
 }
