@@ -711,6 +711,12 @@ TREES = [
     ("a proof put together", "small is not proved by one citation: it does not begin with the name of a proof", [(DEMANDS, "laws.small pl", "(laws.small pl, pl)")]),
     ("a lemma among the statements", "lemma is no proof of another file",
      [(DEMANDS, "  pub small", "  lemma : ℕ\n  lemma = laws.law\n\n  pub small"), (DEMANDS, "laws.small pl", "lemma")]),
+    ("a definition passed on by a file of proofs", None,
+     [(DEFS, "specs.More.{bound, helped}", "specs.More.{helped}\nuse Rattle.a.specs.Laws.{bound}"),
+      ("crates/a/specs/Laws.antt", "use Prim", "unfoldable pub use Rattle.a.specs.More.{bound}\nuse Prim")]),
+    ("a lemma passed on by a file of definitions only", "law is a theorem",
+     [(MORE, "use Prim", "pub use Rattle.a.specs.Laws.{law}\nuse Prim"),
+      (DEFS, "specs.More.{bound, helped}", "specs.More.{bound, helped, law}"), (DEFS, "n < bound", "n < law")]),
     ("no statements", "Demands.antt is missing", [(DEMANDS, None, None)]),
 ]
 

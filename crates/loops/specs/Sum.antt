@@ -1,6 +1,6 @@
 -- A sum: what such a loop computes, its invariant, and the laws of a finished sum.
 -- `search (needs, sums)` answers such a loop's needs. Assumes nothing.
-use Prim.Native.Nat.{ℕ, zero, suc, _+_, _-_, _*_, _<_, _≤_}
+use Prim.Native.Nat.{ℕ, zero, suc, _+_, _*_, _<_, _≤_}
 use native.Mathlib.Nat.{suc-mul, add-le-add}
 use native.Mathlib.Decide.{ℕ-discrete}
 use native.Mathlib.Numerals.{add-one}
