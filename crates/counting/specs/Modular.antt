@@ -1,4 +1,4 @@
--- Arithmetic modulo N, 01's test of an edge and 01's token reading, on numbers: definitions only.
+-- Arithmetic modulo N, 01's test of an edge and 01's token reading, on numbers. Definitions only.
 -- `n` is the modulus N, and `q` the sum Q that the counters of both ends of an edge share. Assumes nothing.
 use mathlib.Core.Path.{_≡_}
 use mathlib.Core.Bool.{Bool, not}

@@ -1,12 +1,11 @@
 -- Demands 1, 2 and 3, in the user's words, for every image, every accepted plan and every list of calls from a fresh start, refused ones
 -- included. `verdict` and `reading-of` are what `read` is promised to answer, `begin-run` what `begin` is, `turn` what `step` is.
 -- Statements; each cites its proof. Assumes nothing.
-use mathlib.Core.Path.{_≡_, ap, _∙_, subst₂}
+use mathlib.Core.Path.{_≡_}
 use mathlib.Core.List.{List}
 use mathlib.Core.Logic.{_⊎_, _↔_}
 use Prim.Native.Nat.{ℕ, _+_, _*_, _%_, _≤_, _<_}
-use Rattle.loops.specs.Choice.{at}
-use Rattle.loops.specs.Sum.{sum}
+use Rattle.loops.specs.Values.{at, sum}
 use Rattle.net.specs.Graph.{Legal, Fireable, Emptiest, Linked, firings}
 use Rattle.net.specs.Emptiest as net
 use Rattle.plan.specs.declared.Plan.{Plan}
@@ -18,28 +17,21 @@ use Rattle.image.specs.Image.{plan-of}
 use Rattle.plan.specs.Order.{FirstFault}
 use Rattle.reader.specs.Faults.{image-order}
 use Rattle.reader.specs.Layout.{Layout}
-use Rattle.reader.specs.Tests.{verdict, no-plan, reading-of}
+use Rattle.reader.specs.Tests.{IsAccepted, verdict, no-plan, reading-of}
 use Rattle.reader.specs.Theorems as reader
-use Rattle.reader.specs.Tests.{IsAccepted}
 use Rattle.machine.specs.declared.State.{State}
 use Rattle.machine.specs.declared.Began.{Began}
 use Rattle.machine.specs.declared.Reply.{Reply}
 use Rattle.machine.specs.declared.Reply.the-variants.{Fired}
 use Rattle.machine.specs.States.{fresh, mark, next-node, StateInShape}
 use Rattle.machine.specs.Calls.{begin-run, marks-left}
-use Rattle.machine.specs.Runs.{Call, turn}
+use Rattle.machine.specs.Runs.{Call, turn, IsRefused, Chain}
 use Rattle.machine.specs.Theorems as machine
-use Rattle.machine.specs.Theorems.{IsRefused}
 use Rattle.follow.specs.Bounds.{AllInBounds, AllFit32}
 use Rattle.follow.specs.Theorems as follow
-use Rattle.follow.specs.Theorems.{state-after, answers-after, fired-after, tokens-now}
-use Rattle.follow.specs.StandsFor.{Follows}
-use Rattle.follow.specs.LookExact.{LookExact}
-use Rattle.follow.specs.FireExact.{FireMeans}
-use Rattle.follow.specs.DriveCalls.{YetToSee}
-use Rattle.follow.specs.Driven.{Driven}
-use Rattle.follow.specs.Reaches.{Reached}
-use Rattle.follow.specs.Chain.{Chain}
+use Rattle.follow.specs.Meaning.{state-after, answers-after, fired-after, tokens-now, LookExact, FireMeans, Stands}
+use Rattle.follow.specs.DriveCalls.{YetToSee, Driven, Reached}
+use Rattle.demands.specs.Functions as functions
 
 -- ---- demand 1
 -- "Every plan image … is answered": accepted, or refused with a number from 1 to 16 and a place.
@@ -68,9 +60,13 @@ module _ (s : List ℕ) (a : IsAccepted s) where
   abbrev pub plan : Plan
   plan = plan-of s
 
-  -- `read` gives that plan, and `begin` does not refuse it
-  pub begun : (reading-of s .plan ≡ plan) × (begin-run plan ≡ record { number = 0; state = fresh })
-  begun = (reader.all-of-the-plan s a, machine.begins plan (reader.accepted-sound s a .shape))
+  -- `read` gives that plan
+  pub plan-read : reading-of s .plan ≡ plan
+  plan-read = reader.all-of-the-plan s a
+
+  -- and `begin` does not refuse it
+  pub begun : begin-run plan ≡ record { number = 0; state = fresh }
+  begun = machine.begins plan (reader.accepted-sound s a .shape)
 
   module _ (cs : List Call) where
     -- the nodes fired so far, in order, are a legal firing order of Lamport's marked graph from its starting tokens
@@ -79,7 +75,7 @@ module _ (s : List ℕ) (a : IsAccepted s) where
 
     -- positions, open flags, counters and marks stand for it: a process's position is its firings in that round; an open process's unmarked
     -- synchronising in-edge of its next node holds a token; marks lie only on synchronising in-edges of that node
-    pub stands : Follows plan (reader.accepted-sound s a) (state-after plan cs) (fired-after plan cs)
+    pub stands : Stands plan (state-after plan cs) (fired-after plan cs)
     stands = follow.stands plan (reader.accepted-sound s a) cs
 
     -- each counter is its increments times firings, modulo N
@@ -160,8 +156,4 @@ module _ (s : List ℕ) (a : IsAccepted s) where
   pub of-the-functions : (r : Reading) → r ≡ reading-of s → (b : Began) → b ≡ begin-run (r .plan)
       → (cs : List Call) {rs : List Reply} {end : State} → Chain (r .plan) (b .state) cs rs end
       → (b .number ≡ 0) × (rs ≡ answers-after plan cs) × (end ≡ state-after plan cs)
-  of-the-functions r e b f cs {rs} {end} c =
-      let p : r .plan ≡ plan = ap (λ x. x .plan) e ∙ begun .0 in
-      let q : b ≡ record { number = 0; state = fresh } = f ∙ ap begin-run p ∙ begun .1 in
-      let k = follow.chain plan cs (subst₂ (λ pl st. Chain pl st cs rs end) p (ap (λ x. x .state) q) c) in
-      (ap (λ x. x .number) q, k .0, k .1)
+  of-the-functions = functions.of-the-functions s a

@@ -19,19 +19,18 @@ use Rattle.machine.specs.declared.State.{State}
 use Rattle.machine.specs.declared.Reply.{Reply}
 use Rattle.machine.specs.declared.Reply.the-variants.{Opened, Found, Wait, Fired, Refused}
 use Rattle.machine.specs.declared.Turned.{Turned}
-use Rattle.machine.specs.States.{mark, next-node, fresh, StateInShape}
+use Rattle.machine.specs.States.{mark, next-node, fresh}
 use Rattle.machine.specs.Calls.{begin-run, marks-left}
 use Rattle.machine.specs.Runs.{Call, turn, replies, last-state, fired-by, fired-in, run-firings}
 use Rattle.machine.specs.OpenExact.{OpenExact, open-is-exact}
-use Rattle.machine.specs.ShapeKept.{kept-exactly}
 use Rattle.machine.specs.Theorems as machine
 use Rattle.follow.specs.Bounds.{AllInBounds, AllFit32}
 use Rattle.follow.specs.Theorems as follow
-use Rattle.follow.specs.PlanSeats.{tokens-after}
+use Rattle.follow.specs.Meaning.{tokens-after, LookExact, FireMeans}
 use Rattle.follow.specs.StandsFor.{Follows}
 use Rattle.follow.specs.Follows.{reached-follows}
-use Rattle.follow.specs.LookExact.{LookExact, look-is-exact}
-use Rattle.follow.specs.FireExact.{FireMeans, fire-fires, fire-exactly}
+use Rattle.follow.specs.LookExact.{look-is-exact}
+use Rattle.follow.specs.FireExact.{fire-fires, fire-exactly}
 use Rattle.follow.specs.DriveCalls.{drive, YetToSee, Goes, AllGo}
 use Rattle.follow.specs.Driven.{driven, yet-to-see, some-process}
 use Rattle.tamsklor.specs.declared.PlanRead.{PlanRead}
@@ -39,8 +38,7 @@ use Rattle.tamsklor.specs.declared.Verdict.{Verdict}
 use Rattle.tamsklor.specs.declared.Begun.{Begun}
 use Rattle.tamsklor.specs.declared.CallAnswer.{CallAnswer}
 use Rattle.tamsklor.specs.declared.Stepped.{Stepped}
-use Rattle.tamsklor.specs.Numbers.{numbers-of, beside-plan, numbers-of-reading, numbers-of-begin, numbers-of-reply}
-use Rattle.tamsklor.specs.Unique.{StepPromise}
+use Rattle.tamsklor.specs.Numbers.{numbers-of, beside-plan, numbers-of-reading, numbers-of-begin, numbers-of-reply, StepPromise}
 use Rattle.demands_c.specs.InNumbers.{StepChain, SteppedChain, node-of, nodes-fired, GoesOn, AllGoOn, OpenInNumbers, LookInNumbers, DrivenInNumbers}
 use Rattle.demands_c.specs.NumbersApart.{kind-found, kind-wait, kind-fired}
 use Rattle.demands_c.specs.CheckNumbers.{zero-accepted}
@@ -171,10 +169,6 @@ module _ (pl : Plan) (sound : Sound pl) (st : State) (s : List ℕ) (f : Follows
     fired-means z k =
         subst (FireMeans pl st (tokens-after pl s) (c .process)) (ap (λ x. x .value) (sym (kept .0)))
         (fire-fires pl sound st s f c z _ (kind-fired (turn pl st c .reply) (ap (λ x. x .kind) (sym (kept .0)) ∙ k)))
-
-  -- the state is in shape
-  pub in-shape : StateInShape pl st
-  in-shape = kept-exactly pl (sound .shape) st .0 (f .kept) .0
 
   -- a process whose next node may fire, called alone
   pub driven-numbers : (p : ℕ) → p < pl .processes → Fireable (graph-of pl) (tokens-after pl s) (next-node pl st p) → (es : List ℕ) → YetToSee pl st p es

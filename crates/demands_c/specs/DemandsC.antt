@@ -1,7 +1,8 @@
 -- Demands 1, 2 and 3 for the numbers and states that C is handed: for every image, every accepted plan and every list of calls, refused ones
 -- included. A result is whatever meets the promise of its function: `tamsklor_plan_check` v ≡ numbers-of (verdict s), `tamsklor_plan_read`
 -- r ≡ numbers-of-reading (reading-of s), `tamsklor_run_begin` b ≡ numbers-of-begin (begin-run plan), `tamsklor_run_step` and
--- `tamsklor_run_stepped` StepPromise. Statements; each cites its proof. Assumes nothing.
+-- `tamsklor_run_stepped` StepPromise.
+-- Statements; each cites its proof. Assumes nothing.
 use mathlib.Core.Path.{_≡_, sym, ap, _∙_, subst}
 use mathlib.Core.List.{List, map}
 use mathlib.Core.Logic.{_⊎_, _↔_, _≢_}
@@ -28,19 +29,17 @@ use Rattle.machine.specs.Calls.{begin-run, marks-left, reading-call}
 use Rattle.machine.specs.Runs.{Call}
 use Rattle.follow.specs.Bounds.{AllInBounds, AllFit32}
 use Rattle.follow.specs.Theorems as follow
-use Rattle.follow.specs.Theorems.{state-after, answers-after, fired-after}
-use Rattle.follow.specs.PlanSeats.{tokens-after}
+use Rattle.follow.specs.Meaning.{tokens-after, state-after, answers-after, fired-after, FireMeans, Stands}
+use Rattle.follow.specs.Stands.{follows-stands}
 use Rattle.follow.specs.StandsFor.{Follows}
-use Rattle.follow.specs.FireExact.{FireMeans}
 use Rattle.follow.specs.DriveCalls.{YetToSee}
 use Rattle.tamsklor.specs.declared.Verdict.{Verdict}
 use Rattle.tamsklor.specs.declared.PlanRead.{PlanRead}
 use Rattle.tamsklor.specs.declared.Begun.{Begun}
 use Rattle.tamsklor.specs.declared.CallAnswer.{CallAnswer}
 use Rattle.tamsklor.specs.declared.Stepped.{Stepped}
-use Rattle.tamsklor.specs.Numbers.{numbers-of, numbers-of-reading, numbers-of-begin, numbers-of-reply, numbers-of-level}
+use Rattle.tamsklor.specs.Numbers.{numbers-of, numbers-of-reading, numbers-of-begin, numbers-of-reply, numbers-of-level, StepPromise}
 use Rattle.tamsklor.specs.Theorems as tamsklor
-use Rattle.tamsklor.specs.Unique.{StepPromise}
 use Rattle.demands_c.specs.InNumbers.{StepChain, SteppedChain, told-reply, told-level, told-reading, RefusedAlike, AcceptedAlike, nodes-fired, AllGoOn, OpenInNumbers, LookInNumbers, DrivenInNumbers}
 use Rattle.demands_c.specs.NumbersApart as apart
 use Rattle.demands_c.specs.CheckNumbers as check
@@ -169,39 +168,42 @@ module _ (s : List ℕ) (a : IsAccepted s) (r : PlanRead) (e : r ≡ numbers-of-
     pub fired-c : nodes-fired ns ≡ fired-after (plan-of s) cs
     fired-c = chain.nodes-of-run (subst (λ pl. StepChain pl fresh cs ns end) (begun-c .1) from-fresh)
 
+    followed : Follows (r .plan) sound-c end (nodes-fired ns)
+    followed = chain.chain-stands (r .plan) sound-c cs from-fresh
+
     -- the state stands for them
-    pub stands-c : Follows (r .plan) sound-c end (nodes-fired ns)
-    stands-c = chain.chain-stands (r .plan) sound-c cs from-fresh
+    pub stands-c : Stands (r .plan) end (nodes-fired ns)
+    stands-c = follows-stands (r .plan) sound-c end (nodes-fired ns) followed
 
     -- ---- demand 2
     -- they are a legal firing order of Lamport's marked graph
     pub follows-c : Legal (graph-of (r .plan)) (graph-of (r .plan) .tokens) (nodes-fired ns)
-    follows-c = stands-c .stands .legal
+    follows-c = stands-c .legal
 
     -- the state is in shape
     pub shape-kept-c : StateInShape (r .plan) end
-    shape-kept-c = chain.in-shape (r .plan) sound-c end (nodes-fired ns) stands-c
+    shape-kept-c = stands-c .in-shape
 
     -- one call more
     module _ (c : Call) (n : CallAnswer) (after : State) (kept : StepPromise (r .plan) end (c .code) (c .process) (c .edge) n after) where
       -- "Open p: marks the synchronising in-edges of p's next node; answers how many."
       pub open-exact-c : c .code ≡ 0 → c .process < r .plan .processes → at (end .opened) (c .process) ≡ 0 → OpenInNumbers (r .plan) end (c .process) n after
-      open-exact-c = chain.open-numbers (r .plan) sound-c end (nodes-fired ns) stands-c c n after kept
+      open-exact-c = chain.open-numbers (r .plan) sound-c end (nodes-fired ns) followed c n after kept
 
       -- "a look at an edge still to be seen finds it exactly when Lamport's marked graph, fired in the same order, has a token there": kind 2
       -- exactly where it has one, kind 3 exactly where it has none
       pub look-exact-c : c .code ≡ 1 → c .process < r .plan .processes → c .edge < 512 → mark end (c .process) (c .edge) ≡ 1
           → LookInNumbers (tokens-after (r .plan) (nodes-fired ns) (c .edge)) (c .process) n after
-      look-exact-c = chain.look-numbers (r .plan) sound-c end (nodes-fired ns) stands-c c n after kept
+      look-exact-c = chain.look-numbers (r .plan) sound-c end (nodes-fired ns) followed c n after kept
 
       -- "A fire succeeds exactly when the process is open with no edge left to see.": kind 4
       pub fire-exact-c : c .code ≡ 2
           → (n .kind ≡ 4) ↔ ((c .process < r .plan .processes) × (at (end .opened) (c .process) ≡ 1) × (marks-left end (c .process) ≡ 0))
-      fire-exact-c = chain.fire-numbers (r .plan) sound-c end (nodes-fired ns) stands-c c n after kept
+      fire-exact-c = chain.fire-numbers (r .plan) sound-c end (nodes-fired ns) followed c n after kept
 
       -- and then its value is the process's next node, all of whose in-edges hold a token
       pub fires-fireable-c : c .code ≡ 2 → n .kind ≡ 4 → FireMeans (r .plan) end (tokens-after (r .plan) (nodes-fired ns)) (c .process) (n .value)
-      fires-fireable-c = chain.fired-means (r .plan) sound-c end (nodes-fired ns) stands-c c n after kept
+      fires-fireable-c = chain.fired-means (r .plan) sound-c end (nodes-fired ns) followed c n after kept
 
     -- ---- demand 3
     -- "if a route leads from node m to node n, n has fired at most as often as m plus the starting tokens on the emptiest such route"
@@ -213,13 +215,13 @@ module _ (s : List ℕ) (a : IsAccepted s) (r : PlanRead) (e : r ≡ numbers-of-
     pub progress-c : (p : ℕ) × (p < r .plan .processes)
         × Fireable (graph-of (r .plan)) (tokens-after (r .plan) (nodes-fired ns)) (next-node (r .plan) end p)
         × ((es : List ℕ) × YetToSee (r .plan) end p es × DrivenInNumbers (r .plan) end p (next-node (r .plan) end p) es)
-    progress-c = chain.some-driven (r .plan) sound-c end (nodes-fired ns) stands-c
+    progress-c = chain.some-driven (r .plan) sound-c end (nodes-fired ns) followed
 
     -- and so in whichever order it looks at them
     pub any-order-c : (p : ℕ) → p < r .plan .processes
         → Fireable (graph-of (r .plan)) (tokens-after (r .plan) (nodes-fired ns)) (next-node (r .plan) end p)
         → (es : List ℕ) → YetToSee (r .plan) end p es → DrivenInNumbers (r .plan) end p (next-node (r .plan) end p) es
-    any-order-c = chain.driven-numbers (r .plan) sound-c end (nodes-fired ns) stands-c
+    any-order-c = chain.driven-numbers (r .plan) sound-c end (nodes-fired ns) followed
 
   -- the run of results by value
   pub run-of-the-stepped : (cs : List Call) {rs : List Stepped} {end : State} → SteppedChain (r .plan) (b .state) cs rs end

@@ -26,7 +26,7 @@ use Rattle.tamsklor.specs.declared.PlanRead.{PlanRead}
 use Rattle.tamsklor.specs.declared.CallAnswer.{CallAnswer}
 use Rattle.tamsklor.specs.declared.Stepped.{Stepped}
 use Rattle.tamsklor.specs.declared.TokenAnswer.{TokenAnswer}
-use Rattle.tamsklor.specs.Unique.{StepPromise}
+use Rattle.tamsklor.specs.Numbers.{StepPromise}
 
 -- ---- chains of calls
 -- from a state, calls with the numbers answered, to a state: each link is what `tamsklor_run_step` promises of its answer and of the state that

@@ -7,9 +7,8 @@ use Rattle.loops.specs.Choice.{if}
 use Rattle.plan.specs.declared.Plan.{Plan}
 use Rattle.machine.specs.declared.State.{State}
 use Rattle.machine.specs.declared.Reply.{Reply}
-use Rattle.machine.specs.declared.Turned.{Turned}
 use Rattle.machine.specs.Calls.{open-call, look-call, fire-call, step-in-shape, step-call}
-use Rattle.machine.specs.Runs.{Call, turn, replies, last-state}
+use Rattle.machine.specs.Runs.{Call, turn, replies, last-state, Chain}
 
 -- an open is a step with code 0; its edge is not used
 pub open-is-step : (pl : Plan) (st : State) (p e : ℕ) → open-call pl st p ≡ step-call pl st 0 p e
@@ -26,18 +25,12 @@ pub fire-is-step : (pl : Plan) (st : State) (p e : ℕ) → fire-call pl st p �
 unfolding fire-call step-call step-in-shape if
 fire-is-step pl st p e = refl
 
--- from a state, calls with their answers, to a state: each result is what the promise of a step says it is
-pub data Chain (pl : Plan) : State → List Call → List Reply → State → Type 0 where
-  done : {st : State} → Chain pl st [] [] st
-  then : {st end : State} {c : Call} {cs : List Call} {rs : List Reply} (t : Turned) → t ≡ step-call pl st (c .code) (c .process) (c .edge)
-      → Chain pl (t .state) cs rs end → Chain pl st (c ∷ cs) (t .reply ∷ rs) end
-
 -- the answers and the last state of a chain are the run's
 pub chain-is-run : {pl : Plan} {st end : State} {cs : List Call} {rs : List Reply} → Chain pl st cs rs end
     → (rs ≡ replies pl st cs) × (end ≡ last-state pl st cs)
 unfolding replies last-state turn
-chain-is-run done = (refl, refl)
-chain-is-run {pl} (then {st = st} {end = end} {c = c} {cs = cs} {rs = rs} t e k) =
+chain-is-run Chain.done = (refl, refl)
+chain-is-run {pl} (Chain.then {st = st} {end = end} {c = c} {cs = cs} {rs = rs} t e k) =
     let r = chain-is-run k in (
       ap (t .reply ∷_) (r .0) ∙ ap (λ t. t .reply ∷ replies pl (t .state) cs) e,
       r .1 ∙ ap (λ t. last-state pl (t .state) cs) e,
@@ -54,5 +47,5 @@ chain-unique a b =
 -- and there is one
 pub chain-of-run : (pl : Plan) (cs : List Call) (st : State) → Chain pl st cs (replies pl st cs) (last-state pl st cs)
 unfolding replies last-state turn
-chain-of-run pl [] st = done
-chain-of-run pl (c ∷ cs) st = then (turn pl st c) refl (chain-of-run pl cs (turn pl st c .state))
+chain-of-run pl [] st = Chain.done
+chain-of-run pl (c ∷ cs) st = Chain.then (turn pl st c) refl (chain-of-run pl cs (turn pl st c .state))

@@ -27,15 +27,16 @@ use Rattle.machine.specs.CallCases.{look-turn, fire-turn, look-accepted, fire-a
 use Rattle.machine.specs.Marks.{found-mark, found-mark-other}
 use Rattle.machine.specs.ShapeParts.{MarkMeans}
 use Rattle.machine.specs.ShapeKept.{kept-fits}
-use Rattle.follow.specs.PlanSeats.{tokens-after, tables}
+use Rattle.follow.specs.PlanSeats.{tables}
+use Rattle.follow.specs.Meaning.{tokens-after}
 use Rattle.follow.specs.StandsFor.{Follows}
 use Rattle.follow.specs.EdgeTest.{found-exactly}
 use Rattle.follow.specs.FollowsCalls.{open-follows, found-follows}
 use Rattle.machine.specs.OpenExact.{opens, is-open}
 use Rattle.follow.specs.LookExact.{end-next}
-use Rattle.follow.specs.Listed.{Listed, listed-first, listed-length}
+use Rattle.follow.specs.Listed.{listed-first, listed-length}
 use Rattle.follow.specs.RunLaws.{replies-append, replies-first, last-first, replies-none, last-none}
-use Rattle.follow.specs.DriveCalls.{to-open, to-look, to-fire, opening, looks, drive, YetToSee, opening-answers, look-answers, drive-answers}
+use Rattle.follow.specs.DriveCalls.{to-open, to-look, to-fire, opening, looks, drive, YetToSee, opening-answers, look-answers, drive-answers, Listed}
 
 module _ (pl : Plan) (sound : Sound pl) (s : List ℕ) (p : ℕ) (h : p < pl .processes) where
   -- the process's next node may fire

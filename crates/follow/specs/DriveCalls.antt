@@ -1,18 +1,19 @@
--- The calls by which one process, called alone, fires its next node, and their answers: definitions only.
+-- The calls by which one process, called alone, fires its next node, and their answers; what is reached by calls. Definitions only.
 -- Assumes nothing.
 use mathlib.Core.Path.{_≡_}
 use mathlib.Core.List.{List, [], _∷_, _++_}
-use Prim.Native.Nat.{ℕ}
+use Prim.Native.Nat.{ℕ, _≤_, _<_}
 use lib.Dec.{eqb}
 use lib.ListN.{length}
 use Rattle.loops.specs.Choice.{at, if}
+use Rattle.net.specs.Graph.{firings}
 use Rattle.plan.specs.declared.Plan.{Plan}
 use Rattle.machine.specs.declared.State.{State}
 use Rattle.machine.specs.declared.Reply.{Reply}
 use Rattle.machine.specs.declared.Reply.the-variants.{Opened, Found, Wait, Fired, Refused}
 use Rattle.machine.specs.States.{mark}
-use Rattle.machine.specs.Runs.{Call, last-state}
-use Rattle.follow.specs.Listed.{Listed}
+use Rattle.machine.specs.Runs.{Call, replies, last-state, run-firings}
+use Rattle.follow.specs.Bounds.{AllInBounds}
 
 -- open p
 abbrev pub to-open : ℕ → Call
@@ -38,6 +39,11 @@ looks p (e ∷ es) = to-look p e ∷ looks p es
 -- one open, one look at each edge, one fire
 unfoldable pub drive : State → ℕ → List ℕ → List Call
 drive st p es = opening st p ++ (looks p es ++ (to-fire p ∷ []))
+
+-- each number below n stands in the list as often as it is marked, and no other stands in it (`firings` counts)
+pub record Listed (mark : ℕ → ℕ) (n : ℕ) (es : List ℕ) : Type 0 where
+  pub each : (e : ℕ) → e < n → firings e es ≡ mark e
+  pub past : (e : ℕ) → n ≤ e → firings e es ≡ 0
 
 -- the list holds each edge that process p has yet to see once it is open, in any order, each once and no other
 abbrev pub YetToSee : Plan → State → ℕ → List ℕ → Type 0
@@ -73,3 +79,18 @@ Goes (Refused k) = ⊥
 unfoldable pub AllGo : List Reply → Type 0
 AllGo [] = Unit {0}
 AllGo (r ∷ rs) = Goes r × AllGo rs
+
+-- process p, called alone, fires v: the calls are all of p and name edges of the plan, their answers are those of a drive, and v alone has fired
+pub record Driven (pl : Plan) (st : State) (p v : ℕ) (es : List ℕ) : Type 0 where
+  pub alone : AllOf p (drive st p es)
+  pub bounds : AllInBounds pl (drive st p es)
+  pub answers : replies pl st (drive st p es) ≡ drive-answers st p es v
+  pub goes : AllGo (replies pl st (drive st p es))
+  pub fires : run-firings pl st (drive st p es) ≡ v ∷ []
+
+-- calls that fire t from a state, each of a process and an edge of the plan, none refused and none waiting
+pub record Reached (pl : Plan) (st : State) (t : List ℕ) : Type 0 where
+  pub calls : List Call
+  pub bounds : AllInBounds pl calls
+  pub fires : run-firings pl st calls ≡ t
+  pub goes : AllGo (replies pl st calls)

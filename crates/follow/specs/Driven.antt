@@ -17,15 +17,15 @@ use Rattle.machine.specs.declared.State.{State}
 use Rattle.machine.specs.declared.Reply.{Reply}
 use Rattle.machine.specs.declared.Reply.the-variants.{Opened, Fired}
 use Rattle.machine.specs.States.{mark, next-node}
-use Rattle.machine.specs.Runs.{Call, replies, last-state, fired-by, fired-in, run-firings}
+use Rattle.machine.specs.Runs.{Call, last-state, fired-by, fired-in, run-firings}
 use Rattle.machine.specs.ByTest.{if-either}
 use Rattle.machine.specs.ShapeKept.{run-kept}
-use Rattle.follow.specs.Bounds.{AllInBounds}
-use Rattle.follow.specs.PlanSeats.{tokens-after, tables, some-node, shaped, every-cycle-holds, seats}
+use Rattle.follow.specs.PlanSeats.{tables, some-node, shaped, every-cycle-holds, seats}
+use Rattle.follow.specs.Meaning.{tokens-after}
 use Rattle.follow.specs.StandsFor.{Follows}
 use Rattle.follow.specs.Listed.{listed}
 use Rattle.follow.specs.RunLaws.{fired-in-append}
-use Rattle.follow.specs.DriveCalls.{to-open, to-fire, opening, looks, drive, YetToSee, opening-answers, look-answers, drive-answers, AllOf, Goes, AllGo}
+use Rattle.follow.specs.DriveCalls.{to-open, to-fire, opening, looks, drive, YetToSee, opening-answers, look-answers, drive-answers, AllOf, Goes, AllGo, Driven}
 use Rattle.follow.specs.InBounds.{drive-bounds}
 use Rattle.follow.specs.Drive.{drive-replies}
 
@@ -83,13 +83,6 @@ drive-fires st p es v =
     ∙ ap (_++ (v ∷ [])) (looks-silent es)
 
 -- ---- what a drive does
--- process p, called alone, fires v: the calls are all of p and name edges of the plan, their answers are those of a drive, and v alone has fired
-pub record Driven (pl : Plan) (st : State) (p v : ℕ) (es : List ℕ) : Type 0 where
-  pub alone : AllOf p (drive st p es)
-  pub bounds : AllInBounds pl (drive st p es)
-  pub answers : replies pl st (drive st p es) ≡ drive-answers st p es v
-  pub goes : AllGo (replies pl st (drive st p es))
-  pub fires : run-firings pl st (drive st p es) ≡ v ∷ []
 
 module _ (pl : Plan) (sound : Sound pl) (st : State) (s : List ℕ) (f : Follows pl sound st s) where
   -- a process whose next node may fire is driven, with its edges in any order

@@ -19,7 +19,8 @@ use Rattle.machine.specs.declared.State.{State}
 use Rattle.formula.specs.Lists.{shares-in, earlier-in, b-in}
 use Rattle.machine.specs.Calls.{b-of, edge-found}
 use Rattle.follow.specs.Beside.{b, finds-edge, look-exact}
-use Rattle.follow.specs.PlanSeats.{tokens-after, shaped, seats, home-seat, between, sum-at-end, counters}
+use Rattle.follow.specs.PlanSeats.{shaped, seats, home-seat, between, sum-at-end, counters}
+use Rattle.follow.specs.Meaning.{tokens-after}
 use Rattle.follow.specs.StandsFor.{Follows}
 
 module _ (pl : Plan) (sound : Sound pl) where

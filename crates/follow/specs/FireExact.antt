@@ -20,18 +20,11 @@ use Rattle.machine.specs.Runs.{Call, turn}
 use Rattle.machine.specs.Exactly as exactly
 use Rattle.machine.specs.Exactly.{fire-means}
 use Rattle.machine.specs.ShapeKept.{kept-exactly}
-use Rattle.follow.specs.PlanSeats.{tokens-after, tables, shaped, every-cycle-holds, seats, sits-home}
+use Rattle.follow.specs.PlanSeats.{tables, shaped, every-cycle-holds, seats, sits-home}
+use Rattle.follow.specs.Meaning.{tokens-after, FireMeans}
 use Rattle.follow.specs.StandsFor.{Follows}
 use Rattle.follow.specs.FollowsCalls.{fire-fireable}
 use Rattle.follow.specs.LookExact.{end-next}
-
--- what a fire call that fires v says of its process
-pub record FireMeans (pl : Plan) (st : State) (tokens : ℕ → ℕ) (p v : ℕ) : Type 0 where
-  pub process-lt : p < pl .processes
-  pub is-open : at (st .opened) p ≡ 1
-  pub none-left : marks-left st p ≡ 0
-  pub node-is : v ≡ next-node pl st p
-  pub fireable : Fireable (graph-of pl) tokens v
 
 module _ (pl : Plan) (sound : Sound pl) (st : State) (s : List ℕ) (f : Follows pl sound st s) where
   in-shape : StateInShape pl st × Sized st

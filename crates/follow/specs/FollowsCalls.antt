@@ -27,7 +27,8 @@ use Rattle.machine.specs.Marks.{open-mark, open-mark-other, found-mark-other}
 use Rattle.machine.specs.ShapeTest.{to-see-exactly}
 use Rattle.machine.specs.KeptByCalls.{open-kept, wait-kept, found-kept, fire-kept}
 use Rattle.follow.specs.Beside.{open-beside, found-beside, may-fire, fire-beside}
-use Rattle.follow.specs.PlanSeats.{tokens-after, tables, shaped, every-cycle-holds, seats, synchronising, counters, share-own}
+use Rattle.follow.specs.PlanSeats.{tables, shaped, every-cycle-holds, seats, synchronising, counters, share-own}
+use Rattle.follow.specs.Meaning.{tokens-after}
 use Rattle.follow.specs.StandsFor.{Follows, NextNode, next-node-is, destination-is}
 use Rattle.follow.specs.EdgeTest.{edge-found-is}
 

@@ -1,3 +1,7 @@
+-- what a reader must believe: what the theorems say
+pub mod Bounds
+pub mod DriveCalls
+pub mod Meaning
 -- counters, and a machine of counters and marks beside a marked graph
 pub mod RoundSums
 pub mod Counters
@@ -11,11 +15,11 @@ pub mod Follows
 -- what an open, a look and a fire call answer
 pub mod LookExact
 pub mod FireExact
+-- a state stands for the firings of its run
+pub mod Stands
 -- one process called alone fires; every legal order is reached
 pub mod Listed
 pub mod RunLaws
-pub mod DriveCalls
-pub mod Bounds
 pub mod InBounds
 pub mod Drive
 pub mod Driven

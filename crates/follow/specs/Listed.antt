@@ -11,11 +11,7 @@ use Rattle.loops.specs.Sum.{sum, sum-same, sum-none}
 use Rattle.net.specs.Graph.{firings}
 use Rattle.net.specs.Counts.{same-or-not, one-if-same-self}
 use Rattle.follow.specs.RoundSums.{sum-one-place}
-
--- each number below n stands in the list as often as it is marked, and no other stands in it (`firings` counts)
-pub record Listed (mark : ℕ → ℕ) (n : ℕ) (es : List ℕ) : Type 0 where
-  pub each : (e : ℕ) → e < n → firings e es ≡ mark e
-  pub past : (e : ℕ) → n ≤ e → firings e es ≡ 0
+use Rattle.follow.specs.DriveCalls.{Listed}
 
 -- where nothing is marked more than once there is such a list
 pub listed : (mark : ℕ → ℕ) (n : ℕ) → ((e : ℕ) → e < n → mark e ≤ 1) → (es : List ℕ) × Listed mark n es

@@ -24,16 +24,10 @@ use Rattle.machine.specs.Replies.{same-found, same-wait, found-not-wait}
 use Rattle.machine.specs.CallCases.{look-turn, look-accepted}
 use Rattle.machine.specs.Exactly.{marks-stay}
 use Rattle.machine.specs.ShapeKept.{kept-fits}
-use Rattle.follow.specs.PlanSeats.{tokens-after, tables, seats}
+use Rattle.follow.specs.PlanSeats.{tables, seats}
+use Rattle.follow.specs.Meaning.{tokens-after, LookExact}
 use Rattle.follow.specs.StandsFor.{Follows, next-node-is}
 use Rattle.follow.specs.EdgeTest.{found-exactly}
-
--- a look's result: found exactly where a token stands, wait exactly where none does, and either with the marks that are left
-pub record LookExact (tokens p : ℕ) (t : Turned) : Type 0 where
-  pub found : ((left : ℕ) × (t .reply ≡ Found left)) ↔ (0 < tokens)
-  pub waits : ((left : ℕ) × (t .reply ≡ Wait left)) ↔ (tokens ≡ 0)
-  pub found-left : (left : ℕ) → t .reply ≡ Found left → left ≡ marks-left (t .state) p
-  pub wait-left : (left : ℕ) → t .reply ≡ Wait left → left ≡ marks-left (t .state) p
 
 -- an answer found beside a token, and an answer wait beside none
 module _ (tokens p : ℕ) (t : Turned) where

@@ -1,13 +1,12 @@
 -- The seats and the counters of an accepted plan.
 -- Assumes nothing.
 use mathlib.Core.Path.{_≡_, refl, sym, ap, _∙_, subst}
-use mathlib.Core.List.{List}
 use mathlib.Core.Logic.{_≢_}
 use Prim.Native.Nat.{ℕ, _+_, _*_, _<_}
 use borrow.Author.Tests.{eq-eqb, ne-eqb}
 use lib.Dec.{eqb}
 use Rattle.loops.specs.Choice.{at, if-true, if-false}
-use Rattle.net.specs.Graph.{Marking, Shaped, after, EveryCycleHolds}
+use Rattle.net.specs.Graph.{Shaped, EveryCycleHolds}
 use Rattle.net.specs.Processes.{Seats, Synchronising as between-processes}
 use Rattle.net.specs.Tables.{graph-of-tables}
 use Rattle.net.specs.Seating.{seats-of}
@@ -20,10 +19,6 @@ use Rattle.plan.specs.Seating.{sits-unique}
 use Rattle.judge.specs.Conditions.{RouteBack, C0, C1, C2, C3, C4, Multiple, Exceeds}
 use Rattle.judge.specs.Sound.{Sound}
 use Rattle.follow.specs.Counters.{Counters}
-
--- the tokens of the plan's marked graph after the firings of a list
-abbrev pub tokens-after : Plan → List ℕ → Marking
-tokens-after pl s = after (graph-of pl) (graph-of pl .tokens) s
 
 -- a node's own counter gets its increment
 pub share-own : (pl : Plan) (v : ℕ) → share (pl .counter) (pl .increment) (at (pl .counter) v) v ≡ at (pl .increment) v

@@ -14,20 +14,14 @@ use Rattle.machine.specs.declared.State.{State}
 use Rattle.machine.specs.States.{next-node, fresh}
 use Rattle.machine.specs.Runs.{Call, replies, last-state, fired-in, run-firings}
 use Rattle.follow.specs.Bounds.{AllInBounds}
-use Rattle.follow.specs.PlanSeats.{tokens-after, shaped, every-cycle-holds}
+use Rattle.follow.specs.PlanSeats.{shaped, every-cycle-holds}
+use Rattle.follow.specs.Meaning.{tokens-after}
 use Rattle.follow.specs.StandsFor.{Follows, fresh-follows}
 use Rattle.follow.specs.Follows.{run-follows}
 use Rattle.follow.specs.RunLaws.{replies-append, run-firings-append}
-use Rattle.follow.specs.DriveCalls.{drive, AllGo}
+use Rattle.follow.specs.DriveCalls.{drive, AllGo, Driven, Reached}
 use Rattle.follow.specs.InBounds.{bounds-append}
-use Rattle.follow.specs.Driven.{AllGo-append, Driven, driven, yet-to-see, fireable-next}
-
--- calls that fire t from a state, each of a process and an edge of the plan, none refused and none waiting
-pub record Reached (pl : Plan) (st : State) (t : List ℕ) : Type 0 where
-  pub calls : List Call
-  pub bounds : AllInBounds pl calls
-  pub fires : run-firings pl st calls ≡ t
-  pub goes : AllGo (replies pl st calls)
+use Rattle.follow.specs.Driven.{AllGo-append, driven, yet-to-see, fireable-next}
 
 module _ (pl : Plan) (sound : Sound pl) where
   -- calls that fire v, and calls that fire t after them

@@ -8,7 +8,7 @@ use Prim.Native.Nat.{ℕ, _+_, _*_, _%_, _≤_, _<_}
 use native.Mathlib.Omega.{arith}
 use Rattle.loops.specs.Choice.{at}
 use Rattle.loops.specs.Sum.{sum}
-use Rattle.net.specs.Graph.{Marking, firings, tokens-on, Route, Fireable, Legal, Emptiest, Linked}
+use Rattle.net.specs.Graph.{firings, tokens-on, Route, Fireable, Legal, Emptiest, Linked}
 use Rattle.net.specs.Tables.{graph-of-tables}
 use Rattle.net.specs.Emptiest.{emptiest-or-none}
 use Rattle.net.specs.Tokens as token-laws
@@ -22,40 +22,23 @@ use Rattle.machine.specs.declared.Reply.{Reply}
 use Rattle.machine.specs.declared.Reply.the-variants.{Fired, Refused}
 use Rattle.machine.specs.States.{mark, next-node, fresh, Sized, StateInShape}
 use Rattle.machine.specs.Calls.{marks-left, both-fit}
-use Rattle.machine.specs.Runs.{Call, turn, replies, last-state, run-firings}
+use Rattle.machine.specs.Runs.{Call, turn, replies, Chain}
 use Rattle.machine.specs.ShapeKept as kept
 use Rattle.machine.specs.ShapeKept.{kept-exactly, reached-kept}
 use Rattle.follow.specs.Bounds.{AllInBounds, AllFit32}
-use Rattle.follow.specs.Counters.{added}
-use Rattle.follow.specs.PlanSeats.{tokens-after, counters, tables}
+use Rattle.follow.specs.PlanSeats.{tables}
+use Rattle.follow.specs.Meaning.{LookExact, FireMeans, state-after, fired-after, tokens-now, Stands}
 use Rattle.follow.specs.StandsFor.{Follows}
 use Rattle.follow.specs.Follows.{reached-follows}
+use Rattle.follow.specs.Stands.{follows-stands}
 use Rattle.machine.specs.OpenExact.{OpenExact, open-is-exact}
-use Rattle.follow.specs.LookExact.{LookExact, look-is-exact}
-use Rattle.follow.specs.FireExact.{FireMeans, fire-fires, fire-exactly, chord-token}
-use Rattle.follow.specs.DriveCalls.{YetToSee}
+use Rattle.follow.specs.LookExact.{look-is-exact}
+use Rattle.follow.specs.FireExact.{fire-fires, fire-exactly, chord-token}
+use Rattle.follow.specs.DriveCalls.{YetToSee, Driven, Reached}
 use Rattle.follow.specs.InBounds as bounds
 use Rattle.follow.specs.Driven as drives
-use Rattle.follow.specs.Driven.{Driven}
-use Rattle.follow.specs.Reaches.{Reached, every-order-reached, lead-by-calls, free-by-calls}
-use Rattle.follow.specs.Chain.{Chain, chain-is-run}
-
-module _ (pl : Plan) where
-  -- the state after a list of calls from a fresh state
-  abbrev pub state-after : List Call → State
-  state-after cs = last-state pl fresh cs
-
-  -- the nodes that have fired, in order
-  abbrev pub fired-after : List Call → List ℕ
-  fired-after cs = run-firings pl fresh cs
-
-  -- the answers to them
-  abbrev pub answers-after : List Call → List Reply
-  answers-after cs = replies pl fresh cs
-
-  -- the tokens that the marked graph then has
-  abbrev pub tokens-now : List Call → Marking
-  tokens-now cs = tokens-after pl (fired-after cs)
+use Rattle.follow.specs.Reaches.{every-order-reached, lead-by-calls, free-by-calls}
+use Rattle.follow.specs.Chain.{chain-is-run}
 
 -- ---- the shape
 module _ (pl : Plan) (shape : InShape pl) where
@@ -73,46 +56,48 @@ module _ (pl : Plan) (shape : InShape pl) where
 
 module _ (pl : Plan) (sound : Sound pl) (cs : List Call) where
   -- ---- the run follows the marked graph
+  followed : Follows pl sound (state-after pl cs) (fired-after pl cs)
+  followed = reached-follows pl sound cs
+
   -- the firings so far are a legal firing order
   pub follows : Legal (graph-of pl) (graph-of pl .tokens) (fired-after pl cs)
-  follows = reached-follows pl sound cs .stands .legal
+  follows = followed .stands .legal
 
   -- positions, open flags, counters and marks stand for it
-  pub stands : Follows pl sound (state-after pl cs) (fired-after pl cs)
-  stands = reached-follows pl sound cs
+  pub stands : Stands pl (state-after pl cs) (fired-after pl cs)
+  stands = follows-stands pl sound (state-after pl cs) (fired-after pl cs) followed
 
   -- each counter is its increments times the firings, modulo N
   pub counters-are : (c : ℕ) → c < pl .counters
       → at (state-after pl cs .counters) c ≡ sum (λ v. share (pl .counter) (pl .increment) c v * firings v (fired-after pl cs)) (pl .nodes) % pl .modulus
-  unfolding counters added graph-of graph-of-tables
-  counters-are c h = stands .stands .counted c h
+  counters-are = stands .counted
 
   -- ---- demand 2
   -- an open of a closed process marks exactly the synchronising in-edges of its next node, and answers how many they are
   pub open-exact : (c : Call) → c .code ≡ 0 → c .process < pl .processes → at (state-after pl cs .opened) (c .process) ≡ 0
       → OpenExact pl (state-after pl cs) (c .process) (turn pl (state-after pl cs) c)
-  open-exact c z h o = open-is-exact pl (sound .shape) (state-after pl cs) (stands .kept) (c .process) h o c z refl
+  open-exact c z h o = open-is-exact pl (sound .shape) (state-after pl cs) (followed .kept) (c .process) h o c z refl
 
   -- a look at a marked edge finds exactly where the marked graph has a token, and waits exactly where it has none
   pub look-exact : (c : Call) → c .code ≡ 1 → c .process < pl .processes → c .edge < 512 → mark (state-after pl cs) (c .process) (c .edge) ≡ 1
       → LookExact (tokens-now pl cs (c .edge)) (c .process) (turn pl (state-after pl cs) c)
-  look-exact = look-is-exact pl sound (state-after pl cs) (fired-after pl cs) stands
+  look-exact = look-is-exact pl sound (state-after pl cs) (fired-after pl cs) followed
 
   -- a fire call fires exactly where its process is open with no mark left
   pub fire-exact : (c : Call) → c .code ≡ 2
       → ((v : ℕ) × (turn pl (state-after pl cs) c .reply ≡ Fired v))
       ↔ ((c .process < pl .processes) × (at (state-after pl cs .opened) (c .process) ≡ 1) × (marks-left (state-after pl cs) (c .process) ≡ 0))
-  fire-exact = fire-exactly pl sound (state-after pl cs) (fired-after pl cs) stands
+  fire-exact = fire-exactly pl sound (state-after pl cs) (fired-after pl cs) followed
 
   -- what it fires is the process's next node, and every in-edge of it holds a token, process edges and chords included
   pub fires-fireable : (c : Call) → c .code ≡ 2 → (v : ℕ) → turn pl (state-after pl cs) c .reply ≡ Fired v
       → FireMeans pl (state-after pl cs) (tokens-now pl cs) (c .process) v
-  fires-fireable = fire-fires pl sound (state-after pl cs) (fired-after pl cs) stands
+  fires-fireable = fire-fires pl sound (state-after pl cs) (fired-after pl cs) followed
 
   -- an edge inside a process holds a token whenever its end node is next
   pub chord : (e p : ℕ) → e < pl .edges → InProcess pl (at (pl .source) e) p → InProcess pl (at (pl .destination) e) p
       → at (pl .destination) e ≡ next-node pl (state-after pl cs) p → 0 < tokens-now pl cs e
-  chord = chord-token pl sound (state-after pl cs) (fired-after pl cs) stands
+  chord = chord-token pl sound (state-after pl cs) (fired-after pl cs) followed
 
   -- ---- demand 3
   -- no node gets ahead of another by more than the starting tokens of a route
@@ -128,14 +113,14 @@ module _ (pl : Plan) (sound : Sound pl) (cs : List Call) where
   -- order, each found, and one fire
   pub driven : (p : ℕ) → p < pl .processes → Fireable (graph-of pl) (tokens-now pl cs) (next-node pl (state-after pl cs) p)
       → (es : List ℕ) → YetToSee pl (state-after pl cs) p es → Driven pl (state-after pl cs) p (next-node pl (state-after pl cs) p) es
-  driven = drives.driven pl sound (state-after pl cs) (fired-after pl cs) stands
+  driven = drives.driven pl sound (state-after pl cs) (fired-after pl cs) followed
 
   -- there is such a process, and an order of its edges
   pub progress : (p : ℕ) × (p < pl .processes) × Fireable (graph-of pl) (tokens-now pl cs) (next-node pl (state-after pl cs) p)
       × ((es : List ℕ) × YetToSee pl (state-after pl cs) p es × Driven pl (state-after pl cs) p (next-node pl (state-after pl cs) p) es)
   progress =
-      let t = drives.some-process pl sound (state-after pl cs) (fired-after pl cs) stands in
-      let es = drives.yet-to-see pl sound (state-after pl cs) (fired-after pl cs) stands (t .0) (t .1) in
+      let t = drives.some-process pl sound (state-after pl cs) (fired-after pl cs) followed in
+      let es = drives.yet-to-see pl sound (state-after pl cs) (fired-after pl cs) followed (t .0) (t .1) in
       (t .0, t .1, t .2, (es .0, es .1, driven (t .0) (t .1) (t .2) (es .0) (es .1)))
 
 module _ (pl : Plan) (sound : Sound pl) where

@@ -9,15 +9,7 @@ use mathlib.Core.Logic.{⊎-elim}
 use mathlib.Core.Bool.{Bool, true, false}
 use Rattle.loops.specs.Choice.{if, true-false, not-true}
 use Rattle.loops.specs.First.{left-step}
-
--- is f true at one of i, i + 1, .. of m numbers
-unfoldable pub anyOf : (ℕ → Bool) → ℕ → ℕ → Bool
-anyOf f i zero = false
-anyOf f i (suc m) = if (f i) true (anyOf f (suc i) m)
-
--- is f true at a number below n
-unfoldable pub any : (ℕ → Bool) → ℕ → Bool
-any f n = anyOf f 0 n
+unfoldable pub use Rattle.loops.specs.Values.{anyOf, any}
 
 -- the invariant at i
 pub record Any (f : ℕ → Bool) (n i : ℕ) : Type 0 where

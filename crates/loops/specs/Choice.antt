@@ -3,33 +3,11 @@
 use Prim.Native.Nat.{ℕ, _<_, _≤_}
 use native.Mathlib.Omega.{arith}
 use mathlib.Core.Path.{_≡_, refl, sym, ap, _∙_}
-use mathlib.Core.List.{List}
 use mathlib.Core.Bool.{Bool, true, false, not}
 use mathlib.Core.Logic.{_⊎_, inl, inr}
 use borrow.Author.Tests.{lt-ltb, le-ltb, le-leb, lt-leb, eq-eqb, ne-eqb}
-use lib.ListN.{getD}
 use lib.Dec.{eqb, ltb, leb}
-
--- what stands at a place of a list, and 0 past its end
-abbrev pub at : List ℕ → ℕ → ℕ
-at l k = getD l k 0
-
--- a where the test is true, else b
-unfoldable pub if : {A : Type 0} → Bool → A → A → A
-if true a b = a
-if false a b = b
-
--- both tests are true
-unfoldable pub both : Bool → Bool → Bool
-both a b = if a b false
-
--- one of the tests is true
-unfoldable pub either : Bool → Bool → Bool
-either a b = if a true b
-
--- 1 where the test is true, else 0
-unfoldable pub one-if : Bool → ℕ
-one-if t = if t 1 0
+unfoldable pub use Rattle.loops.specs.Values.{at, if, both, either, one-if}
 
 pub true-false : true ≡ false → ⊥
 true-false e = let z : _≡_ {A = ℕ} 0 1 = cc in omega arith

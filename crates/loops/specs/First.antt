@@ -9,15 +9,7 @@ use mathlib.Core.Path.{_≡_, refl, sym, ap, _∙_}
 use mathlib.Core.Logic.{⊎-elim}
 use mathlib.Core.Bool.{Bool, true, false}
 use Rattle.loops.specs.Choice.{if, true-false}
-
--- the lowest of i, i + 1, .. at which f is true, of m numbers; where there is none, i + m
-unfoldable pub firstOf : (ℕ → Bool) → ℕ → ℕ → ℕ
-firstOf f i zero = i
-firstOf f i (suc m) = if (f i) i (firstOf f (suc i) m)
-
--- the lowest number below n at which f is true, or n
-unfoldable pub first : (ℕ → Bool) → ℕ → ℕ
-first f n = firstOf f 0 n
+unfoldable pub use Rattle.loops.specs.Values.{firstOf, first}
 
 -- the invariant at i
 pub record First (f : ℕ → Bool) (n i : ℕ) : Type 0 where

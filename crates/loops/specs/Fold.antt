@@ -4,11 +4,7 @@ use Prim.Native.Nat.{ℕ, zero, suc, _+_, _<_, _≤_}
 use native.Mathlib.Numerals.{add-one}
 use native.Mathlib.Omega.{arith}
 use mathlib.Core.Path.{_≡_, refl, _∙_}
-
--- what n turns make of a
-unfoldable pub fold : {A : Type 0} → (ℕ → A → A) → A → ℕ → A
-fold f a zero = a
-fold f a (suc n) = f n (fold f a n)
+unfoldable pub use Rattle.loops.specs.Values.{fold}
 
 -- the invariant at i
 pub record Fold {A : Type 0} (f : ℕ → A → A) (a : A) (n i : ℕ) (x : A) : Type 0 where

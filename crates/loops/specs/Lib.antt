@@ -1,3 +1,6 @@
+-- what loops compute
+pub mod Values
+-- what is proved of it
 pub mod Choice
 pub mod First
 pub mod Any

@@ -9,11 +9,7 @@ use mathlib.Core.List.{List}
 use lib.ListN.{length, set, length-set}
 use lib.Seq.{getD-set-same, getD-set-other}
 use Rattle.loops.specs.Choice.{at}
-
--- the list l with f 0, f 1, .. f (n - 1) stored from `base` on
-unfoldable pub stored : (ℕ → ℕ) → ℕ → List ℕ → ℕ → List ℕ
-stored f base l zero = l
-stored f base l (suc n) = set (stored f base l n) (base + n) (f n)
+unfoldable pub use Rattle.loops.specs.Values.{stored}
 
 -- the invariant at i
 pub record Row (f : ℕ → ℕ) (base : ℕ) (l : List ℕ) (n i : ℕ) (x : List ℕ) : Type 0 where

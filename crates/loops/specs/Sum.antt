@@ -1,16 +1,12 @@
 -- A sum: what such a loop computes, its invariant, and the laws of a finished sum.
 -- `search (needs, sums)` answers such a loop's needs. Assumes nothing.
-use Prim.Native.Nat.{ℕ, zero, suc, _+_, _-_, _*_, _<_, _≤_}
+use Prim.Native.Nat.{ℕ, zero, suc, _+_, _*_, _<_, _≤_}
 use native.Mathlib.Nat.{suc-mul, add-le-add}
 use native.Mathlib.Decide.{ℕ-discrete}
 use native.Mathlib.Numerals.{add-one}
 use native.Mathlib.Omega.{arith}
 use mathlib.Core.Path.{_≡_, refl, ap, _∙_}
-
--- the sum of f at the numbers below n
-unfoldable pub sum : (ℕ → ℕ) → ℕ → ℕ
-sum f zero = 0
-sum f (suc n) = sum f n + f n
+unfoldable pub use Rattle.loops.specs.Values.{sum}
 
 -- the invariant at i
 pub record Sum (f : ℕ → ℕ) (n i s : ℕ) : Type 0 where

@@ -10,15 +10,7 @@ use mathlib.Core.Logic.{⊎-elim}
 use lib.ListN.{length, set, replicate, length-append, length-replicate, List·getD-append}
 use lib.Seq.{set-at, append-snoc, getD-at, getD-append-add}
 use Rattle.loops.specs.Choice.{at}
-
--- f 0, f 1, .. f (n - 1)
-unfoldable pub entries : (ℕ → ℕ) → ℕ → List ℕ
-entries f zero = []
-entries f (suc n) = entries f n ++ (f n ∷ [])
-
--- the same with 0 past them, `size` numbers in all
-unfoldable pub padded : (ℕ → ℕ) → ℕ → ℕ → List ℕ
-padded f size n = entries f n ++ replicate (size - n) 0
+unfoldable pub use Rattle.loops.specs.Values.{entries, padded}
 
 pub entries-length : (f : ℕ → ℕ) (n : ℕ) → length (entries f n) ≡ n
 unfolding entries

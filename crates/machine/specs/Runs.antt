@@ -1,5 +1,6 @@
--- The run of a list of calls from a state: its answers, its last state, its firings in order. Definitions only.
+-- The run of a list of calls from a state: its answers, its last state, its firings in order; chains of results. Definitions only.
 -- Assumes nothing.
+use mathlib.Core.Path.{_≡_}
 use mathlib.Core.List.{List, [], _∷_, _++_}
 use Prim.Native.Nat.{ℕ}
 use Rattle.plan.specs.declared.Plan.{Plan}
@@ -45,3 +46,13 @@ fired-in (r ∷ rs) = fired-by r ++ fired-in rs
 -- the firings of a list of calls
 unfoldable pub run-firings : Plan → State → List Call → List ℕ
 run-firings pl st cs = fired-in (replies pl st cs)
+
+-- the answer is a refusal
+abbrev pub IsRefused : Reply → Type 0
+IsRefused r = (number : ℕ) × (r ≡ Refused number)
+
+-- from a state, calls with their answers, to a state: each result is what the promise of a step says it is
+pub data Chain (pl : Plan) : State → List Call → List Reply → State → Type 0 where
+  done : {st : State} → Chain pl st [] [] st
+  then : {st end : State} {c : Call} {cs : List Call} {rs : List Reply} (t : Turned) → t ≡ step-call pl st (c .code) (c .process) (c .edge)
+      → Chain pl (t .state) cs rs end → Chain pl st (c ∷ cs) (t .reply ∷ rs) end

@@ -10,12 +10,10 @@ use Rattle.plan.specs.Tests.{plan-fits}
 use Rattle.plan.specs.Formed.{fits-exactly}
 use Rattle.plan.specs.Agree.{Agree}
 use Rattle.machine.specs.declared.State.{State}
-use Rattle.machine.specs.declared.Reply.{Reply}
-use Rattle.machine.specs.declared.Reply.the-variants.{Refused}
 use Rattle.machine.specs.declared.Turned.{Turned}
 use Rattle.machine.specs.States.{fresh, Sized, StateInShape}
 use Rattle.machine.specs.Calls.{raised, do-open, do-look, do-fire, refused, begin-run, reading-call, opened-state, found-state, with-marks, fired-state, edge-found}
-use Rattle.machine.specs.Runs.{Call, turn}
+use Rattle.machine.specs.Runs.{Call, turn, IsRefused}
 use Rattle.machine.specs.Replies.{opened-not-refused, found-not-refused, wait-not-refused, fired-not-refused}
 use Rattle.machine.specs.ByTest.{if-either}
 use Rattle.machine.specs.CallCases.{by-step}
@@ -25,10 +23,6 @@ use Rattle.machine.specs.Agreeing as agreeing
 use Rattle.machine.specs.KeptByCalls.{fresh-kept}
 use Rattle.machine.specs.Accepted as accepted
 use Rattle.machine.specs.Accepted.{Unchanged, Changed}
-
--- the answer is a refusal
-abbrev pub IsRefused : Reply → Type 0
-IsRefused r = (number : ℕ) × (r ≡ Refused number)
 
 module _ (pl : Plan) (st : State) where
   -- a refused call keeps the state; another raises the turn number

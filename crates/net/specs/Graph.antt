@@ -1,4 +1,4 @@
--- Lamport's marked graphs (000, sections 2 and 3.2) in the words of 01: definitions only.
+-- Lamport's marked graphs (000, sections 2 and 3.2) in the words of 01. Definitions only.
 -- Assumes nothing.
 use mathlib.Core.Path.{_≡_}
 use mathlib.Core.List.{List, [], _∷_}

@@ -1,4 +1,4 @@
--- Processes as an abstract notion (01, "Marked graph and conditions"): definitions only.
+-- Processes as an abstract notion (01, "Marked graph and conditions"). Definitions only.
 -- Assumes nothing.
 use mathlib.Core.Path.{_≡_}
 use mathlib.Core.List.{List}

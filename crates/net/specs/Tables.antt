@@ -1,4 +1,4 @@
--- The marked graph of an edge table: definition only.
+-- The marked graph of an edge table. Definitions only.
 -- Assumes nothing.
 use mathlib.Core.List.{List}
 use Prim.Native.Nat.{ℕ}

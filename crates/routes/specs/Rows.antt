@@ -1,5 +1,5 @@
 -- The row of emptiest routes from one node as a computation: relaxed edge by edge, sweep by sweep, until nothing changes.
--- Assumes nothing.
+-- Definitions only. Assumes nothing.
 use Prim.Native.Nat.{ℕ, zero, suc, _+_, min}
 use mathlib.Core.List.{List}
 use lib.Dec.{eqb}

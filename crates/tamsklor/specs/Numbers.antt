@@ -1,15 +1,18 @@
 -- The numbers that the host gets back (01: "it calls the plan check with the image's bytes and gets numbers back"), for each case of each answer.
 -- Definitions only. Assumes nothing.
+use mathlib.Core.Path.{_≡_}
 use Prim.Native.Nat.{ℕ, _+_, _*_}
 use Rattle.plan.specs.declared.Plan.{Plan}
 use Rattle.judge.specs.declared.Answer.{Answer}
 use Rattle.judge.specs.declared.Answer.the-variants.{Accepted, Refused}
 use Rattle.reader.specs.declared.Reading.{Reading}
+use Rattle.machine.specs.declared.State.{State}
 use Rattle.machine.specs.declared.Began.{Began}
 use Rattle.machine.specs.declared.Reply.{Reply}
 use Rattle.machine.specs.declared.Reply.the-variants as reply
 use Rattle.machine.specs.declared.Level.{Level}
 use Rattle.machine.specs.declared.Level.the-variants.{Tokens, Unread}
+use Rattle.machine.specs.Calls.{step-call}
 use Rattle.tamsklor.specs.declared.Outcome.{Outcome}
 use Rattle.tamsklor.specs.declared.Verdict.{Verdict}
 use Rattle.tamsklor.specs.declared.PlanRead.{PlanRead}
@@ -54,3 +57,7 @@ numbers-of-level (Unread number) = record { number = number; count = 0 }
 -- the version, major, minor and patch number in one
 abbrev pub version : ℕ
 version = 0 * 10000 + 2 * 100 + 0
+
+-- what the promises of `tamsklor_run_step` and `tamsklor_run_stepped` say of an answer and of the state afterwards
+abbrev pub StepPromise : Plan → State → ℕ → ℕ → ℕ → CallAnswer → State → Type 0
+StepPromise pl st code p e r after = (r ≡ numbers-of-reply (step-call pl st code p e .reply)) × (after ≡ step-call pl st code p e .state)

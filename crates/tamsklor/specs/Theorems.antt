@@ -13,8 +13,8 @@ use Rattle.machine.specs.declared.State.{State}
 use Rattle.machine.specs.declared.Reply.{Reply}
 use Rattle.machine.specs.declared.Reply.the-variants.{Opened, Found, Wait, Fired, Refused}
 use Rattle.machine.specs.Calls.{step-call}
-use Rattle.machine.specs.Runs.{turn}
-use Rattle.machine.specs.Theorems.{IsRefused, refused-unchanged}
+use Rattle.machine.specs.Runs.{turn, IsRefused}
+use Rattle.machine.specs.Theorems.{refused-unchanged}
 use Rattle.tamsklor.specs.Numbers.{numbers-of, beside-plan, numbers-of-reading, numbers-of-reply}
 
 -- kind 0 is a refusal

@@ -7,14 +7,14 @@ use Rattle.plan.specs.declared.Plan.{Plan}
 use Rattle.plan.specs.Unique.{one-answer}
 use Rattle.reader.specs.Tests.{verdict, reading-of}
 use Rattle.machine.specs.declared.State.{State}
-use Rattle.machine.specs.Calls.{begin-run, step-call, reading-call}
+use Rattle.machine.specs.Calls.{begin-run, reading-call}
 use Rattle.tamsklor.specs.declared.Verdict.{Verdict}
 use Rattle.tamsklor.specs.declared.PlanRead.{PlanRead}
 use Rattle.tamsklor.specs.declared.Begun.{Begun}
 use Rattle.tamsklor.specs.declared.CallAnswer.{CallAnswer}
 use Rattle.tamsklor.specs.declared.Stepped.{Stepped}
 use Rattle.tamsklor.specs.declared.TokenAnswer.{TokenAnswer}
-use Rattle.tamsklor.specs.Numbers.{numbers-of, numbers-of-reading, numbers-of-begin, numbers-of-reply, numbers-of-level, version}
+use Rattle.tamsklor.specs.Numbers.{numbers-of, numbers-of-reading, numbers-of-begin, numbers-of-level, version, StepPromise}
 
 pub check-unique : (s : List ℕ) {r r′ : Verdict} → r ≡ numbers-of (verdict s) → r′ ≡ numbers-of (verdict s) → r ≡ r′
 check-unique s = one-answer
@@ -24,10 +24,6 @@ read-unique s = one-answer
 
 pub begin-unique : (pl : Plan) {r r′ : Begun} → r ≡ numbers-of-begin (begin-run pl) → r′ ≡ numbers-of-begin (begin-run pl) → r ≡ r′
 begin-unique pl = one-answer
-
--- what the promises of `tamsklor_run_step` and `tamsklor_run_stepped` say of an answer and of the state afterwards
-abbrev pub StepPromise : Plan → State → ℕ → ℕ → ℕ → CallAnswer → State → Type 0
-StepPromise pl st code p e r after = (r ≡ numbers-of-reply (step-call pl st code p e .reply)) × (after ≡ step-call pl st code p e .state)
 
 pub step-unique : (pl : Plan) (st : State) (code p e : ℕ) {r r′ : CallAnswer} {after after′ : State}
     → StepPromise pl st code p e r after → StepPromise pl st code p e r′ after′ → (r ≡ r′) × (after ≡ after′)

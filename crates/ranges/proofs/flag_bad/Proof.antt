@@ -2,7 +2,7 @@
 use borrow.Author.Needs.{needs}
 use Rattle.loops.specs.Choice.{ifs}
 use Rattle.ranges.specs.Range.{out-of-range}
-use Rattle.ranges.specs.Range.{ones}
+use Rattle.ranges.specs.Chosen.{ones}
 use Rattle.ranges.proofs.flag_bad.Statement.{statement}
 use Rattle.ranges.proofs.flag_bad.Tie as tie
 

@@ -48,7 +48,7 @@ use Rattle.machine.proofs.State as T
 use Rattle.machine.proofs.State.Laws as T′
 use Rattle.tamsklor.specs.declared.CallAnswer.{CallAnswer}
 use Rattle.tamsklor.specs.declared.Stepped.{Stepped}
-use Rattle.tamsklor.specs.Unique.{StepPromise}
+use Rattle.tamsklor.specs.Numbers.{StepPromise}
 use Rattle.tamsklor.proofs.CallAnswer as N
 use Rattle.tamsklor.proofs.CallAnswer.Laws as N′
 use Rattle.tamsklor.proofs.Stepped as S
