@@ -1,6 +1,6 @@
 -- what a reader must believe: little-endian numbers, numbers in decimal
 pub mod LittleEndian
 pub mod Decimal
--- bytes put at a place of a buffer
+-- bytes put at a offset of a buffer
 pub mod Writing
 pub mod PutDecimal

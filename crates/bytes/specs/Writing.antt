@@ -1,5 +1,5 @@
--- Bytes stored one after the other from a place of a lent buffer on: what each function of this crate that writes does.
--- A place past the buffer's end is counted and not written. Assumes nothing.
+-- Bytes stored one after the other from a offset of a lent buffer on: what each function of this crate that writes does.
+-- A offset past the buffer's end is counted and not written. Assumes nothing.
 use mathlib.Core.Path.{_≡_, refl, sym, ap, _∙_}
 use mathlib.Core.List.{List, [], _∷_, _++_}
 use Prim.Native.Nat.{ℕ, suc, _+_, _≤_, _<_}
@@ -9,10 +9,10 @@ use lib.ListN.{length, take, drop, set, length-append}
 use lib.Seq.{sets, sets-eq, length-sets, set-out, take-suc, take-all}
 use Rattle.loops.specs.Choice.{at}
 
--- `text` was put into `before` at `place`: the buffer is `after`, and `next` is the place behind it
-pub record Put (before : List ℕ) (place : ℕ) (text after : List ℕ) (next : ℕ) : Type 0 where
-  pub after-is : after ≡ sets before place text
-  pub next-is : next ≡ place + length text
+-- `text` was put into `before` at `offset`: the buffer is `after`, and `next` is the offset behind it
+pub record Put (before : List ℕ) (offset : ℕ) (text after : List ℕ) (next : ℕ) : Type 0 where
+  pub after-is : after ≡ sets before offset text
+  pub next-is : next ≡ offset + length text
 
 sets-append : (l : List ℕ) (i : ℕ) (xs ys : List ℕ) → sets l i (xs ++ ys) ≡ sets (sets l i xs) (i + length xs) ys
 sets-append l i [] ys = ap (λ (k : ℕ). sets l k ys) (omega arith)

@@ -1,5 +1,5 @@
 -- Demands 1, 2 and 3, in the user's words, for every image, every accepted plan and every list of calls from a fresh start, refused ones
--- included. `verdict` and `reading-of` are what `read` is promised to answer, `begin-run` what `begin` is, `turn` what `step` is.
+-- included. `verdict` and `read-of` are what `read` is promised to answer, `begin-run` what `begin` is, `turn` what `step` is.
 -- Statements; each cites its proof. Assumes nothing.
 use mathlib.Core.Path.{_≡_}
 use mathlib.Core.List.{List}
@@ -12,12 +12,12 @@ use Rattle.plan.specs.declared.Plan.{Plan}
 use Rattle.plan.specs.Value.{graph-of, InProcess, share}
 use Rattle.judge.specs.declared.Answer.the-variants.{Refused}
 use Rattle.judge.specs.Sound.{Upheld}
-use Rattle.reader.specs.declared.Reading.{Reading}
+use Rattle.reader.specs.declared.ReadPlan.{ReadPlan}
 use Rattle.image.specs.Image.{plan-of}
 use Rattle.plan.specs.Order.{FirstFault}
 use Rattle.reader.specs.Faults.{image-order}
 use Rattle.reader.specs.Layout.{Layout}
-use Rattle.reader.specs.Tests.{IsAccepted, verdict, no-plan, reading-of}
+use Rattle.reader.specs.Tests.{IsAccepted, verdict, no-plan, read-of}
 use Rattle.reader.specs.Theorems as reader
 use Rattle.machine.specs.declared.State.{State}
 use Rattle.machine.specs.declared.Began.{Began}
@@ -39,7 +39,7 @@ pub answered : (s : List ℕ) → IsAccepted s ⊎ ((k p : ℕ) × (verdict s �
 answered = reader.answered
 
 -- "A refused plan gives a number and a place, and nothing of the plan."
-pub nothing-of-the-plan : (s : List ℕ) (k p : ℕ) → verdict s ≡ Refused k p → reading-of s .plan ≡ no-plan
+pub nothing-of-the-plan : (s : List ℕ) (k p : ℕ) → verdict s ≡ Refused k p → read-of s .plan ≡ no-plan
 nothing-of-the-plan = reader.nothing-of-the-plan
 
 -- "A refused call leaves the run's state unchanged, turn number included.": of any plan value and any state.
@@ -61,7 +61,7 @@ module _ (s : List ℕ) (a : IsAccepted s) where
   plan = plan-of s
 
   -- `read` gives that plan
-  pub plan-read : reading-of s .plan ≡ plan
+  pub plan-read : read-of s .plan ≡ plan
   plan-read = reader.all-of-the-plan s a
 
   -- and `begin` does not refuse it
@@ -153,7 +153,7 @@ module _ (s : List ℕ) (a : IsAccepted s) where
 
   -- ---- the functions: whatever `read` and `begin` give, and any chain of states and answers in which each step meets what `step` ensures,
   -- is the run of its calls, of which all of the above speaks
-  pub of-the-functions : (r : Reading) → r ≡ reading-of s → (b : Began) → b ≡ begin-run (r .plan)
+  pub of-the-functions : (r : ReadPlan) → r ≡ read-of s → (b : Began) → b ≡ begin-run (r .plan)
       → (cs : List Call) {rs : List Reply} {end : State} → Chain (r .plan) (b .state) cs rs end
       → (b .number ≡ 0) × (rs ≡ answers-after plan cs) × (end ≡ state-after plan cs)
   of-the-functions = functions.of-the-functions s a

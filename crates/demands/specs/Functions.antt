@@ -4,8 +4,8 @@ use mathlib.Core.Path.{_≡_, ap, _∙_, subst₂}
 use mathlib.Core.List.{List}
 use Prim.Native.Nat.{ℕ}
 use Rattle.image.specs.Image.{plan-of}
-use Rattle.reader.specs.declared.Reading.{Reading}
-use Rattle.reader.specs.Tests.{IsAccepted, reading-of}
+use Rattle.reader.specs.declared.ReadPlan.{ReadPlan}
+use Rattle.reader.specs.Tests.{IsAccepted, read-of}
 use Rattle.reader.specs.Theorems as reader
 use Rattle.machine.specs.declared.State.{State}
 use Rattle.machine.specs.declared.Began.{Began}
@@ -17,7 +17,7 @@ use Rattle.machine.specs.Theorems as machine
 use Rattle.follow.specs.Meaning.{state-after, answers-after}
 use Rattle.follow.specs.Theorems as follow
 
-pub of-the-functions : (s : List ℕ) → IsAccepted s → (r : Reading) → r ≡ reading-of s → (b : Began) → b ≡ begin-run (r .plan)
+pub of-the-functions : (s : List ℕ) → IsAccepted s → (r : ReadPlan) → r ≡ read-of s → (b : Began) → b ≡ begin-run (r .plan)
     → (cs : List Call) {rs : List Reply} {end : State} → Chain (r .plan) (b .state) cs rs end
     → (b .number ≡ 0) × (rs ≡ answers-after (plan-of s) cs) × (end ≡ state-after (plan-of s) cs)
 of-the-functions s a r e b f cs {rs} {end} c =

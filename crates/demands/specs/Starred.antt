@@ -19,7 +19,7 @@ use Rattle.counting.specs.Modular.{rounded-up, minus-modulo, finds}
 use Rattle.plan.specs.declared.Plan.{Plan}
 use Rattle.plan.specs.Faults.{InShape}
 use Rattle.plan.specs.Value.{base, node-at, share, counter-sum, edge-sum}
-use Rattle.plan.specs.Tests.{stands-at, place-of, ends-past, process-at, home-of, home, seat, synchronises}
+use Rattle.plan.specs.Tests.{stands-at, order-position, ends-past, process-at, home-of, home, seat, synchronises}
 use Rattle.judge.specs.declared.Answer.{Answer}
 use Rattle.judge.specs.declared.Answer.the-variants.{Accepted, Refused}
 use Rattle.bytes.specs.LittleEndian.{two-bytes, four-bytes}
@@ -103,19 +103,19 @@ P-accepted = ap (λ l. answer-at l 0) starred-plans
 
 -- "fresh, open 1, look 1,2 waits"
 all-ones-run : answers-in-shape (plan-of P-all-ones) fresh (open-call 1 ∷ look-call 1 2 ∷ []) ≡ reply.Opened 1 ∷ reply.Wait 1 ∷ []
-unfolding answers-in-shape if both either one-if first firstOf any anyOf sum stored entries padded rounded-up minus-modulo finds base node-at share counter-sum edge-sum stands-at place-of ends-past process-at home-of home seat synchronises two-bytes four-bytes entry order-start node-start edge-start tables-of plan-of as-two as-four all-as-two image-of like-P edges-of-P P P-all-ones next-node fresh shares-in earlier-in b-in raised-in marked-in open-number look-number fire-number b-of edge-found raised to-see marks-left opened-state do-open with-marks found-state do-look next-position fired-state do-fire refused unless-refused open-in-shape look-in-shape fire-in-shape step-in-shape
+unfolding answers-in-shape if both either one-if first firstOf any anyOf sum stored entries padded rounded-up minus-modulo finds base node-at share counter-sum edge-sum stands-at order-position ends-past process-at home-of home seat synchronises two-bytes four-bytes entry order-start node-start edge-start tables-of plan-of as-two as-four all-as-two image-of like-P edges-of-P P P-all-ones next-node fresh shares-in earlier-in b-in raised-in marked-in open-number look-number fire-number b-of edge-found raised to-see marks-left opened-state do-open with-marks found-state do-look next-position fired-state do-fire refused unless-refused open-in-shape look-in-shape fire-in-shape step-in-shape
 all-ones-run = refl
 
 -- "b(1) is 7 and rounds to 8"
 all-ones-b : (b-of (plan-of P-all-ones) (end-in-shape (plan-of P-all-ones) fresh (open-call 1 ∷ look-call 1 2 ∷ [])) 1 ≡ 7)
     × (rounded-up (plan-of P-all-ones .q) 7 ≡ 8)
-unfolding end-in-shape if both either one-if first firstOf any anyOf sum stored entries padded rounded-up minus-modulo finds base node-at share counter-sum edge-sum stands-at place-of ends-past process-at home-of home seat synchronises two-bytes four-bytes entry order-start node-start edge-start tables-of plan-of as-two as-four all-as-two image-of like-P edges-of-P P P-all-ones next-node fresh shares-in earlier-in b-in raised-in marked-in open-number look-number fire-number b-of edge-found raised to-see marks-left opened-state do-open with-marks found-state do-look next-position fired-state do-fire refused unless-refused open-in-shape look-in-shape fire-in-shape step-in-shape
+unfolding end-in-shape if both either one-if first firstOf any anyOf sum stored entries padded rounded-up minus-modulo finds base node-at share counter-sum edge-sum stands-at order-position ends-past process-at home-of home seat synchronises two-bytes four-bytes entry order-start node-start edge-start tables-of plan-of as-two as-four all-as-two image-of like-P edges-of-P P P-all-ones next-node fresh shares-in earlier-in b-in raised-in marked-in open-number look-number fire-number b-of edge-found raised to-see marks-left opened-state do-open with-marks found-state do-look next-position fired-state do-fire refused unless-refused open-in-shape look-in-shape fire-in-shape step-in-shape
 all-ones-b = (refl, refl)
 
 P-run : answers-in-shape (plan-of P) fresh
     (open-call 0 ∷ look-call 0 4 ∷ fire-call 0 ∷ open-call 0 ∷ fire-call 0 ∷ open-call 1 ∷ look-call 1 2 ∷ look-call 1 2 ∷ fire-call 1 ∷ [])
     ≡ reply.Opened 1 ∷ reply.Found 0 ∷ reply.Fired 0 ∷ reply.Opened 0 ∷ reply.Fired 1 ∷ reply.Opened 1 ∷ reply.Found 0 ∷ reply.Refused 23 ∷ reply.Fired 2 ∷ []
-unfolding answers-in-shape if both either one-if first firstOf any anyOf sum stored entries padded rounded-up minus-modulo finds base node-at share counter-sum edge-sum stands-at place-of ends-past process-at home-of home seat synchronises two-bytes four-bytes entry order-start node-start edge-start tables-of plan-of as-two as-four all-as-two image-of like-P edges-of-P P P-all-ones next-node fresh shares-in earlier-in b-in raised-in marked-in open-number look-number fire-number b-of edge-found raised to-see marks-left opened-state do-open with-marks found-state do-look next-position fired-state do-fire refused unless-refused open-in-shape look-in-shape fire-in-shape step-in-shape
+unfolding answers-in-shape if both either one-if first firstOf any anyOf sum stored entries padded rounded-up minus-modulo finds base node-at share counter-sum edge-sum stands-at order-position ends-past process-at home-of home seat synchronises two-bytes four-bytes entry order-start node-start edge-start tables-of plan-of as-two as-four all-as-two image-of like-P edges-of-P P P-all-ones next-node fresh shares-in earlier-in b-in raised-in marked-in open-number look-number fire-number b-of edge-found raised to-see marks-left opened-state do-open with-marks found-state do-look next-position fired-state do-fire refused unless-refused open-in-shape look-in-shape fire-in-shape step-in-shape
 P-run = refl
 
 run-from : (s : List ℕ) (q n m : ℕ) → verdict s ≡ Accepted q n m → (cs : List Call)

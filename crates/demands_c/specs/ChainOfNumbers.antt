@@ -12,7 +12,7 @@ use Rattle.plan.specs.declared.Plan.{Plan}
 use Rattle.plan.specs.Value.{graph-of}
 use Rattle.judge.specs.Sound.{Sound}
 use Rattle.image.specs.Image.{plan-of}
-use Rattle.reader.specs.Tests.{verdict, reading-of}
+use Rattle.reader.specs.Tests.{verdict, read-of}
 use Rattle.reader.specs.Theorems as reader
 use Rattle.reader.specs.Tests.{IsAccepted}
 use Rattle.machine.specs.declared.State.{State}
@@ -38,7 +38,7 @@ use Rattle.tamsklor.specs.declared.Verdict.{Verdict}
 use Rattle.tamsklor.specs.declared.Begun.{Begun}
 use Rattle.tamsklor.specs.declared.CallAnswer.{CallAnswer}
 use Rattle.tamsklor.specs.declared.Stepped.{Stepped}
-use Rattle.tamsklor.specs.Numbers.{numbers-of, beside-plan, numbers-of-reading, numbers-of-begin, numbers-of-reply, StepPromise}
+use Rattle.tamsklor.specs.Numbers.{numbers-of, beside-plan, numbers-of-read, numbers-of-begin, numbers-of-reply, StepPromise}
 use Rattle.demands_c.specs.InNumbers.{StepChain, SteppedChain, node-of, nodes-fired, GoesOn, AllGoOn, OpenInNumbers, LookInNumbers, DrivenInNumbers}
 use Rattle.demands_c.specs.NumbersApart.{kind-found, kind-wait, kind-fired}
 use Rattle.demands_c.specs.CheckNumbers.{zero-accepted}
@@ -191,15 +191,15 @@ module _ (pl : Plan) (sound : Sound pl) (st : State) (s : List ℕ) (f : Follows
       (t .0, t .1, t .2, (es .0, es .1, driven-numbers (t .0) (t .1) (t .2) (es .0) (es .1)))
 
 -- ---- from what C is handed for an image
-module _ (s : List ℕ) (r : PlanRead) (e : r ≡ numbers-of-reading (reading-of s)) where
+module _ (s : List ℕ) (r : PlanRead) (e : r ≡ numbers-of-read (read-of s)) where
   -- number 0 exactly where the image is accepted
   pub read-zero : (r .number ≡ 0) ↔ IsAccepted s
-  unfolding numbers-of-reading beside-plan reading-of
+  unfolding numbers-of-read beside-plan read-of
   read-zero = rw e (zero-accepted s)
 
   -- the plan is the image's
   pub read-plan : IsAccepted s → r .plan ≡ plan-of s
-  unfolding numbers-of-reading beside-plan
+  unfolding numbers-of-read beside-plan
   read-plan a = ap (λ x. x .plan) e ∙ reader.all-of-the-plan s a
 
   pub read-sound : IsAccepted s → Sound (r .plan)
@@ -207,7 +207,7 @@ module _ (s : List ℕ) (r : PlanRead) (e : r ≡ numbers-of-reading (reading-of
 
   -- the numbers are the plan check's
   pub read-checks : (v : Verdict) → v ≡ numbers-of (verdict s) → (r .number ≡ v .number) × (r .place ≡ v .place) × (r .least ≡ v .least)
-  unfolding numbers-of-reading beside-plan reading-of
+  unfolding numbers-of-read beside-plan read-of
   read-checks v q = (
     ap (λ x. x .number) e ∙ sym (ap (λ x. x .number) q),
     ap (λ x. x .place) e ∙ sym (ap (λ x. x .place) q),

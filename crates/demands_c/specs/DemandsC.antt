@@ -1,6 +1,6 @@
 -- Demands 1, 2 and 3 for the numbers and states that C is handed: for every image, every accepted plan and every list of calls, refused ones
 -- included. A result is whatever meets the promise of its function: `tamsklor_plan_check` v ≡ numbers-of (verdict s), `tamsklor_plan_read`
--- r ≡ numbers-of-reading (reading-of s), `tamsklor_run_begin` b ≡ numbers-of-begin (begin-run plan), `tamsklor_run_step` and
+-- r ≡ numbers-of-read (read-of s), `tamsklor_run_begin` b ≡ numbers-of-begin (begin-run plan), `tamsklor_run_step` and
 -- `tamsklor_run_stepped` StepPromise.
 -- Statements; each cites its proof. Assumes nothing.
 use mathlib.Core.Path.{_≡_, sym, ap, _∙_, subst}
@@ -18,7 +18,7 @@ use Rattle.judge.specs.Sound.{Upheld, Sound}
 use Rattle.image.specs.Image.{plan-of}
 use Rattle.reader.specs.Faults.{image-order}
 use Rattle.reader.specs.Layout.{Layout}
-use Rattle.reader.specs.Tests.{verdict, no-plan, reading-of}
+use Rattle.reader.specs.Tests.{verdict, no-plan, read-of}
 use Rattle.reader.specs.Tests.{IsAccepted}
 use Rattle.machine.specs.declared.State.{State}
 use Rattle.machine.specs.declared.Began.{Began}
@@ -38,9 +38,9 @@ use Rattle.tamsklor.specs.declared.PlanRead.{PlanRead}
 use Rattle.tamsklor.specs.declared.Begun.{Begun}
 use Rattle.tamsklor.specs.declared.CallAnswer.{CallAnswer}
 use Rattle.tamsklor.specs.declared.Stepped.{Stepped}
-use Rattle.tamsklor.specs.Numbers.{numbers-of, numbers-of-reading, numbers-of-begin, numbers-of-reply, numbers-of-level, StepPromise}
+use Rattle.tamsklor.specs.Numbers.{numbers-of, numbers-of-read, numbers-of-begin, numbers-of-reply, numbers-of-level, StepPromise}
 use Rattle.tamsklor.specs.Theorems as tamsklor
-use Rattle.demands_c.specs.InNumbers.{StepChain, SteppedChain, told-reply, told-level, told-reading, RefusedAlike, AcceptedAlike, nodes-fired, AllGoOn, OpenInNumbers, LookInNumbers, DrivenInNumbers}
+use Rattle.demands_c.specs.InNumbers.{StepChain, SteppedChain, told-reply, told-level, told-read, RefusedAlike, AcceptedAlike, nodes-fired, AllGoOn, OpenInNumbers, LookInNumbers, DrivenInNumbers}
 use Rattle.demands_c.specs.NumbersApart as apart
 use Rattle.demands_c.specs.CheckNumbers as check
 use Rattle.demands_c.specs.ChainOfNumbers as chain
@@ -88,11 +88,11 @@ pub levels-apart : (pl pl′ : Plan) (st st′ : State) (e e′ : ℕ) → numbe
 levels-apart pl pl′ st st′ e e′ q = sym (level-told pl st e) ∙ ap told-level q ∙ level-told pl′ st′ e′
 
 -- so is the reader's answer with the plan beside it
-pub reading-told : (s : List ℕ) → told-reading (numbers-of-reading (reading-of s)) ≡ reading-of s
-reading-told = apart.reading-told
+pub read-told : (s : List ℕ) → told-read (numbers-of-read (read-of s)) ≡ read-of s
+read-told = apart.read-told
 
-pub readings-apart : (s s′ : List ℕ) → numbers-of-reading (reading-of s) ≡ numbers-of-reading (reading-of s′) → reading-of s ≡ reading-of s′
-readings-apart s s′ q = sym (reading-told s) ∙ ap told-reading q ∙ reading-told s′
+pub reads-apart : (s s′ : List ℕ) → numbers-of-read (read-of s) ≡ numbers-of-read (read-of s′) → read-of s ≡ read-of s′
+reads-apart s s′ q = sym (read-told s) ∙ ap told-read q ∙ read-told s′
 
 -- so is a beginning
 pub begins-apart : (b b′ : Began) → numbers-of-begin b ≡ numbers-of-begin b′ → b ≡ b′
@@ -103,7 +103,7 @@ pub checks-apart : (s s′ : List ℕ) → numbers-of (verdict s) ≡ numbers-of
 checks-apart = apart.verdicts-alike
 
 -- ---- the plan
-module _ (s : List ℕ) (r : PlanRead) (e : r ≡ numbers-of-reading (reading-of s)) where
+module _ (s : List ℕ) (r : PlanRead) (e : r ≡ numbers-of-read (read-of s)) where
   -- its numbers are the plan check's
   pub read-is-check : (v : Verdict) → v ≡ numbers-of (verdict s) → (r .number ≡ v .number) × (r .place ≡ v .place) × (r .least ≡ v .least)
   read-is-check = chain.read-checks s r e
@@ -143,7 +143,7 @@ pub stepped-chain : {pl : Plan} {st end : State} {cs : List Call} {rs : List Ste
 stepped-chain = chain.stepped-chain
 
 -- ---- a run: what `tamsklor_plan_read` hands out for an accepted image, and `tamsklor_run_begin` for its plan
-module _ (s : List ℕ) (a : IsAccepted s) (r : PlanRead) (e : r ≡ numbers-of-reading (reading-of s)) (b : Begun) (f : b ≡ numbers-of-begin (begin-run (r .plan))) where
+module _ (s : List ℕ) (a : IsAccepted s) (r : PlanRead) (e : r ≡ numbers-of-read (read-of s)) (b : Begun) (f : b ≡ numbers-of-begin (begin-run (r .plan))) where
   -- the plan that C then holds is in shape, its processes are processes, and C0 to C4 hold
   pub sound-c : Sound (r .plan)
   sound-c = chain.read-sound s r e a

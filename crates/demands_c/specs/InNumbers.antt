@@ -10,7 +10,7 @@ use Rattle.plan.specs.declared.Plan.{Plan}
 use Rattle.plan.specs.Value.{Synchronising}
 use Rattle.judge.specs.declared.Answer.{Answer}
 use Rattle.judge.specs.declared.Answer.the-variants as answer
-use Rattle.reader.specs.declared.Reading.{Reading}
+use Rattle.reader.specs.declared.ReadPlan.{ReadPlan}
 use Rattle.reader.specs.Tests.{verdict}
 use Rattle.machine.specs.declared.State.{State}
 use Rattle.machine.specs.declared.Reply.{Reply}
@@ -62,8 +62,8 @@ unfoldable pub told-answer : PlanRead → Answer
 told-answer r = if (eqb (r .number) 0) (answer.Accepted (r .plan .q) (r .plan .modulus) (r .least)) (answer.Refused (r .number) (r .place))
 
 -- and with the plan beside it
-unfoldable pub told-reading : PlanRead → Reading
-told-reading r = record { answer = told-answer r; plan = r .plan }
+unfoldable pub told-read : PlanRead → ReadPlan
+told-read r = record { answer = told-answer r; plan = r .plan }
 
 -- both images are refused with one number and place
 unfoldable pub RefusedAlike : List ℕ → List ℕ → Type 0

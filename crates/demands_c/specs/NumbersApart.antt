@@ -10,7 +10,7 @@ use Rattle.loops.specs.Choice.{if, if-true, if-false}
 use Rattle.plan.specs.declared.Plan.{Plan}
 use Rattle.judge.specs.declared.Answer.the-variants as answer
 use Rattle.image.specs.Image.{plan-of}
-use Rattle.reader.specs.Tests.{verdict, plan-beside, reading-of}
+use Rattle.reader.specs.Tests.{verdict, plan-beside, read-of}
 use Rattle.reader.specs.Theorems as reader
 use Rattle.machine.specs.declared.State.{State}
 use Rattle.machine.specs.declared.Reply.{Reply}
@@ -23,8 +23,8 @@ use Rattle.machine.specs.Calls.{reading-in-shape, reading-call}
 use Rattle.machine.specs.ByTest.{if-either}
 use Rattle.tamsklor.specs.declared.Verdict.{Verdict}
 use Rattle.tamsklor.specs.declared.Begun.{Begun}
-use Rattle.tamsklor.specs.Numbers.{numbers-of, beside-plan, numbers-of-reading, numbers-of-begin, numbers-of-reply, numbers-of-level}
-use Rattle.demands_c.specs.InNumbers.{told-reply, told-level, told-answer, told-reading, RefusedAlike, AcceptedAlike}
+use Rattle.tamsklor.specs.Numbers.{numbers-of, beside-plan, numbers-of-read, numbers-of-begin, numbers-of-reply, numbers-of-level}
+use Rattle.demands_c.specs.InNumbers.{told-reply, told-level, told-answer, told-read, RefusedAlike, AcceptedAlike}
 
 -- ---- a call's answer
 pub reply-told : (r : Reply) → told-reply (numbers-of-reply r) ≡ r
@@ -108,8 +108,8 @@ module _ (s : List ℕ) where
 
   -- Q, N and the least modulus as C is handed them
   pub three-numbers : (q modulus least : ℕ) → verdict s ≡ answer.Accepted q modulus least
-      → (numbers-of-reading (reading-of s) .plan .q ≡ q) × (numbers-of-reading (reading-of s) .plan .modulus ≡ modulus) × (numbers-of-reading (reading-of s) .least ≡ least)
-  unfolding numbers-of-reading beside-plan reading-of
+      → (numbers-of-read (read-of s) .plan .q ≡ q) × (numbers-of-read (read-of s) .plan .modulus ≡ modulus) × (numbers-of-read (read-of s) .least ≡ least)
+  unfolding numbers-of-read beside-plan read-of
   three-numbers q modulus least e =
       let beside : plan-beside (verdict s) (plan-of s) ≡ plan-of s = reader.all-of-the-plan s (q, modulus, least, e) in (
         ap (λ pl. pl .q) beside ∙ q-beside q modulus least e,
@@ -118,34 +118,34 @@ module _ (s : List ℕ) where
       )
 
   -- the number beside the plan is that of the answer
-  number-is : (v : Verdict) → numbers-of (verdict s) ≡ v → numbers-of-reading (reading-of s) .number ≡ v .number
-  unfolding numbers-of-reading beside-plan reading-of
+  number-is : (v : Verdict) → numbers-of (verdict s) ≡ v → numbers-of-read (read-of s) .number ≡ v .number
+  unfolding numbers-of-read beside-plan read-of
   number-is v q = ap (λ x. x .number) q
 
-  place-is : (v : Verdict) → numbers-of (verdict s) ≡ v → numbers-of-reading (reading-of s) .place ≡ v .place
-  unfolding numbers-of-reading beside-plan reading-of
-  place-is v q = ap (λ x. x .place) q
+  order-position-is : (v : Verdict) → numbers-of (verdict s) ≡ v → numbers-of-read (read-of s) .place ≡ v .place
+  unfolding numbers-of-read beside-plan read-of
+  order-position-is v q = ap (λ x. x .place) q
 
   -- what the reader answers is told back
-  pub answer-told : told-answer (numbers-of-reading (reading-of s)) ≡ verdict s
+  pub answer-told : told-answer (numbers-of-read (read-of s)) ≡ verdict s
   unfolding told-answer
   answer-told =
       elim (reader.answered s) [
         | inl a ↦
             let n = three-numbers (a .0) (a .1) (a .2) (a .3) in
-            if-true _ _ _ (eq-eqb (numbers-of-reading (reading-of s) .number) 0 (number-is _ (accepted-number (a .0) (a .1) (a .2) (a .3))))
+            if-true _ _ _ (eq-eqb (numbers-of-read (read-of s) .number) 0 (number-is _ (accepted-number (a .0) (a .1) (a .2) (a .3))))
             ∙ same-accepted (n .0) (n .1) (n .2)
             ∙ sym (a .3)
         | inr h ↦
             let k = number-is _ (refused-number (h .0) (h .1) (h .2)) in
-            if-false _ _ _ (ne-eqb (numbers-of-reading (reading-of s) .number) 0 (λ z. omega (arith, k, h .3)))
-            ∙ ap₂ answer.Refused k (place-is _ (refused-number (h .0) (h .1) (h .2)))
+            if-false _ _ _ (ne-eqb (numbers-of-read (read-of s) .number) 0 (λ z. omega (arith, k, h .3)))
+            ∙ ap₂ answer.Refused k (order-position-is _ (refused-number (h .0) (h .1) (h .2)))
             ∙ sym (h .2)
       ]
 
-  pub reading-told : told-reading (numbers-of-reading (reading-of s)) ≡ reading-of s
-  unfolding told-reading numbers-of-reading beside-plan reading-of
-  reading-told = ap (λ a. record { answer = a; plan = plan-beside (verdict s) (plan-of s) }) answer-told
+  pub read-told : told-read (numbers-of-read (read-of s)) ≡ read-of s
+  unfolding told-read numbers-of-read beside-plan read-of
+  read-told = ap (λ a. record { answer = a; plan = plan-beside (verdict s) (plan-of s) }) answer-told
 
 -- ---- the plan check
 -- equal numbers: both images are refused with one number and place, or both are accepted with one least modulus

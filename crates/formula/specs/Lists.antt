@@ -6,7 +6,7 @@ use lib.ListN.{set}
 use Rattle.loops.specs.Choice.{at}
 use Rattle.loops.specs.Sum.{sum}
 use Rattle.plan.specs.Value.{base, share}
-use Rattle.plan.specs.Tests.{home-of, place-of}
+use Rattle.plan.specs.Tests.{home-of, order-position}
 use Rattle.counting.specs.Modular.{less-earlier}
 
 -- ---- b(x)
@@ -23,7 +23,7 @@ pub record SeatsOk (order : List ℕ) (start seat : ℕ) : Type 0 where
 unfoldable pub earlier-in : List ℕ → List ℕ → List ℕ → List ℕ → ℕ → ℕ → ℕ → ℕ
 earlier-in order lengths counter increment nodes processes x =
     shares-in order counter increment (at counter x) (base lengths (home-of order lengths nodes processes x))
-    (place-of order nodes x - base lengths (home-of order lengths nodes processes x))
+    (order-position order nodes x - base lengths (home-of order lengths nodes processes x))
 
 -- x is a node, in an order of nodes
 pub record PlacedOk (order : List ℕ) (nodes processes x : ℕ) : Type 0 where

@@ -6,7 +6,7 @@ use Prim.Native.Nat.{ℕ, _+_, _-_, _≤_}
 use native.Mathlib.Omega.{arith}
 use Rattle.loops.specs.First.{first-le}
 use Rattle.plan.specs.Value.{base}
-use Rattle.plan.specs.Tests.{place-of, process-at, stands-at, ends-past}
+use Rattle.plan.specs.Tests.{order-position, process-at, stands-at, ends-past}
 use Rattle.plan.specs.Seating.{begins-before}
 use Rattle.formula.specs.Lists.{SeatsOk, PlacedOk}
 
@@ -19,9 +19,9 @@ pub starts-before : (lengths : List ℕ) (processes i home start : ℕ) → home
 starts-before lengths processes i home start e q = omega (arith, begins-before lengths processes i home (omega arith))
 
 -- the seats before a node's own
-pub seats-ok : (order : List ℕ) (nodes processes x place start : ℕ) → PlacedOk order nodes processes x → place ≡ place-of order nodes x → start ≤ place
+pub seats-ok : (order : List ℕ) (nodes processes x place start : ℕ) → PlacedOk order nodes processes x → place ≡ order-position order nodes x → start ≤ place
     → SeatsOk order start (place - start)
-unfolding place-of
+unfolding order-position
 seats-ok order nodes processes x place start ok e h =
     let m : place ≤ nodes = omega (arith, first-le (stands-at order x) nodes) in
     record { within = omega arith; entry-lt = λ j l. ok .order-lt (start + j) (omega arith) }

@@ -55,8 +55,8 @@ fn earlier<'a>(
     requires { ⌜ PlacedOk (now order) nodes processes x ⌝ }
     ensures { λ r. ⌜ r ≡ earlier-in (now (order .entry)) (now (lengths .entry)) (now (counter .entry)) (now (increment .entry)) nodes processes x ⌝ }
 {
-    let place = seats::position_of_node(order, nodes, x);
-    let home = plan::process_of_position(lengths, processes, place);
+    let place = seats::order_position_of(order, nodes, x);
+    let home = plan::process_of_order_position(lengths, processes, place);
     let start = plan::lengths_sum(lengths, home);
     shares(order, counter, increment, counter[x], start, place - start)
 }

@@ -19,7 +19,7 @@ use Rattle.judge.specs.declared.Answer.{Answer}
 use Rattle.judge.specs.declared.Answer.the-variants.{Accepted, Refused}
 use Rattle.judge.specs.Faults.{conditions-order, order-from-5, plan-order}
 use Rattle.plan.specs.Tests.{refuse-if, refuse-lowest, order-then, tables-then}
-use Rattle.judge.specs.Tests.{bad-position, bad-counter, bad-increment, bad-sum, on-free-cycle, no-way-back, not-multiple, not-above-bound, least-modulus, from-15-in, from-13-in, from-11-in, from-9, from-5, judged}
+use Rattle.judge.specs.Tests.{bad-order-position, bad-counter, bad-increment, bad-sum, on-free-cycle, no-way-back, not-multiple, not-above-bound, least-modulus, from-15-in, from-13-in, from-11-in, from-9, from-5, judged}
 use Rattle.judge.specs.ProcessFaults.{test-9}
 use Rattle.judge.specs.CounterFaults.{test-10, test-11, test-12}
 use Rattle.judge.specs.RouteFaults.{test-13, test-14, test-15, test-16}
@@ -44,7 +44,7 @@ module _ (pl : Plan) where
   pub conditions-decided : Tabled pl → Decided (conditions-order pl) (from-9 pl)
   unfolding from-9 from-11-in from-13-in from-15-in least-modulus edge-sum refuse-lowest refuse-if conditions-order
   conditions-decided t =
-      decides-lowest _ _ _ _ 9 _ _ (bad-position pl) (pl .nodes) _ (test-9 pl t) (λ n9.
+      decides-lowest _ _ _ _ 9 _ _ (bad-order-position pl) (pl .nodes) _ (test-9 pl t) (λ n9.
       decides-lowest _ _ _ _ 10 _ _ (bad-counter pl) (pl .counters) _ (test-10 pl t) (λ n10.
       decides-lowest _ _ _ _ 11 _ _ (bad-increment pl) (pl .nodes) _ (test-11 pl t) (λ n11.
       decides-lowest _ _ _ _ 12 _ _ (bad-sum pl) (pl .counters) _ (test-12 pl t) (λ n12.

@@ -12,7 +12,7 @@ use Rattle.net.specs.Graph.{Route, tokens-on}
 use Rattle.net.specs.Tables.{graph-of-tables}
 use Rattle.plan.specs.declared.Plan.{Plan}
 use Rattle.plan.specs.Value.{graph-of, base}
-use Rattle.plan.specs.Tests.{stands-at, place-of, ends-past, process-at, home-of, home, synchronises}
+use Rattle.plan.specs.Tests.{stands-at, order-position, ends-past, process-at, home-of, home, synchronises}
 use Rattle.judge.specs.Conditions.{RouteBack}
 
 -- 01: "edges 0-1:0, 1-0:1, 1-2:0, 2-3:0, 3-0:3, 3-2:1"
@@ -36,10 +36,10 @@ P =
 
 -- edges 1-2 and 3-0 are the synchronising ones
 pub synchronising-of-P : (synchronises P 0 ≡ false) × (synchronises P 2 ≡ true) × (synchronises P 3 ≡ false) × (synchronises P 4 ≡ true)
-unfolding P if first firstOf sum base stands-at place-of ends-past process-at home-of home synchronises
+unfolding P if first firstOf sum base stands-at order-position ends-past process-at home-of home synchronises
 synchronising-of-P = (refl, refl, refl, refl)
 
 -- "chords and process edges included": the route back over edges 3, 4 and 0 counts, and holds 3 tokens
 pub back-over-all-edges : (d : ℕ) → RouteBack P 2 d → d ≤ 3
-unfolding P RouteBack graph-of graph-of-tables Route tokens-on if first firstOf sum base stands-at place-of ends-past process-at home-of home synchronises
+unfolding P RouteBack graph-of graph-of-tables Route tokens-on if first firstOf sum base stands-at order-position ends-past process-at home-of home synchronises
 back-over-all-edges d back = omega (arith, back .least (3 ∷ 4 ∷ 0 ∷ []) (omega arith, refl, (omega arith, refl, (omega arith, refl, refl))))

@@ -19,8 +19,8 @@ use Rattle.plan.specs.Tests.{process-at}
 use Rattle.plan.specs.Tables.{Tabled}
 use Rattle.plan.specs.Seating.{process-at-lt, ends-after, begins-before, process-at-is, within, has-processes}
 use Rattle.judge.specs.Faults.{ProcessEdge, Fault9}
-use Rattle.rounds.specs.Lent.{is-edge, is-last, next-position, edge-tokens, lacks-edge}
-use Rattle.judge.specs.Tests.{bad-position}
+use Rattle.rounds.specs.Lent.{is-edge, is-last, fires-after, edge-tokens, lacks-edge}
+use Rattle.judge.specs.Tests.{bad-order-position}
 
 module _ (pl : Plan) where
   -- the search for an edge finds one exactly where there is one
@@ -60,16 +60,16 @@ module _ (pl : Plan) where
     position = base (pl .lengths) p + j
 
     -- where the round goes on
-    onward : (suc j ≡ at (pl .lengths) p → ⊥) → (next-position (pl .lengths) (pl .processes) position ≡ base (pl .lengths) p + suc j) × (edge-tokens (pl .lengths) (pl .processes) position ≡ 0)
-    unfolding next-position edge-tokens is-last base sum
+    onward : (suc j ≡ at (pl .lengths) p → ⊥) → (fires-after (pl .lengths) (pl .processes) position ≡ base (pl .lengths) p + suc j) × (edge-tokens (pl .lengths) (pl .processes) position ≡ 0)
+    unfolding fires-after edge-tokens is-last base sum
     onward d =
         let last : is-last (pl .lengths) (pl .processes) position ≡ false =
         ap (λ x. eqb (suc position) (base (pl .lengths) (suc x))) (process-at-seat t p j hp hj) ∙ ne-eqb (suc position) (base (pl .lengths) (suc p)) (λ e. d (omega (arith, e))) in
         (if-false _ _ _ last ∙ (let e : suc position ≡ base (pl .lengths) p + suc j = omega arith in e), if-false _ _ _ last)
 
     -- and where it closes
-    closes : suc j ≡ at (pl .lengths) p → (next-position (pl .lengths) (pl .processes) position ≡ base (pl .lengths) p + 0) × (edge-tokens (pl .lengths) (pl .processes) position ≡ 1)
-    unfolding next-position edge-tokens is-last base sum
+    closes : suc j ≡ at (pl .lengths) p → (fires-after (pl .lengths) (pl .processes) position ≡ base (pl .lengths) p + 0) × (edge-tokens (pl .lengths) (pl .processes) position ≡ 1)
+    unfolding fires-after edge-tokens is-last base sum
     closes d =
         let last : is-last (pl .lengths) (pl .processes) position ≡ true =
         ap (λ x. eqb (suc position) (base (pl .lengths) (suc x))) (process-at-seat t p j hp hj) ∙ eq-eqb (suc position) (base (pl .lengths) (suc p)) (omega arith) in
@@ -79,7 +79,7 @@ module _ (pl : Plan) where
     abbrev pub wanted : Bool
     wanted =
         any (is-edge (pl .source) (pl .destination) (pl .tokens) (at (pl .order) position)
-        (at (pl .order) (next-position (pl .lengths) (pl .processes) position)) (edge-tokens (pl .lengths) (pl .processes) position)) (pl .edges)
+        (at (pl .order) (fires-after (pl .lengths) (pl .processes) position)) (edge-tokens (pl .lengths) (pl .processes) position)) (pl .edges)
 
     pub process-edge-exactly : (wanted ≡ true) ↔ ProcessEdge pl p j
     unfolding node-at
@@ -87,7 +87,7 @@ module _ (pl : Plan) where
         elim (ℕ-discrete (suc j) (at (pl .lengths) p)) [
           | yes d ↦
               let c = closes d in
-              let same : Edge (graph-of pl) (at (pl .order) position) (at (pl .order) (next-position (pl .lengths) (pl .processes) position)) (edge-tokens (pl .lengths) (pl .processes) position)
+              let same : Edge (graph-of pl) (at (pl .order) position) (at (pl .order) (fires-after (pl .lengths) (pl .processes) position)) (edge-tokens (pl .lengths) (pl .processes) position)
               ≡ Edge (graph-of pl) (node-at pl p j) (node-at pl p 0) 1 =
               ap₂ (λ x y. Edge (graph-of pl) (node-at pl p j) (at (pl .order) x) y) (c .0) (c .1) in (
                 λ h. record { on = λ l. absurd (omega arith); closing = λ l. subst (λ X. X) same (edge-exactly _ _ _ .0 h) },
@@ -95,7 +95,7 @@ module _ (pl : Plan) where
               )
           | no d ↦
               let c = onward d in
-              let same : Edge (graph-of pl) (at (pl .order) position) (at (pl .order) (next-position (pl .lengths) (pl .processes) position)) (edge-tokens (pl .lengths) (pl .processes) position)
+              let same : Edge (graph-of pl) (at (pl .order) position) (at (pl .order) (fires-after (pl .lengths) (pl .processes) position)) (edge-tokens (pl .lengths) (pl .processes) position)
               ≡ Edge (graph-of pl) (node-at pl p j) (node-at pl p (suc j)) 0 =
               ap₂ (λ x y. Edge (graph-of pl) (node-at pl p j) (at (pl .order) x) y) (c .0) (c .1) in (
                 λ h. record { on = λ l. subst (λ X. X) same (edge-exactly _ _ _ .0 h); closing = λ l. absurd (d l) },
@@ -105,11 +105,11 @@ module _ (pl : Plan) where
 
   module _ (t : Tabled pl) where
     -- a position is bad exactly where fault 9 stands
-    pub test-9 : (i : ℕ) → ((i < pl .nodes) × (bad-position pl i ≡ true)) ↔ Fault9 pl i
+    pub test-9 : (i : ℕ) → ((i < pl .nodes) × (bad-order-position pl i ≡ true)) ↔ Fault9 pl i
     unfolding lacks-edge
     test-9 i = (to, from)
       where
-        to : (i < pl .nodes) × (bad-position pl i ≡ true) → Fault9 pl i
+        to : (i < pl .nodes) × (bad-order-position pl i ≡ true) → Fault9 pl i
         to h =
             let k = split t i (h .0) in
             record {
@@ -120,14 +120,14 @@ module _ (pl : Plan) where
               here = k .4;
               broken = λ e.
                   true-false (sym (process-edge-exactly t (k .0) (k .1) (k .2) (k .3) .1 e)
-                  ∙ not-is-true (wanted t (k .0) (k .1) (k .2) (k .3)) (subst (λ x. bad-position pl x ≡ true) (k .4) (h .1)));
+                  ∙ not-is-true (wanted t (k .0) (k .1) (k .2) (k .3)) (subst (λ x. bad-order-position pl x ≡ true) (k .4) (h .1)));
             }
 
-        from : Fault9 pl i → (i < pl .nodes) × (bad-position pl i ≡ true)
+        from : Fault9 pl i → (i < pl .nodes) × (bad-order-position pl i ≡ true)
         from f =
             let none : wanted t (f .process) (f .seat) (f .process-lt) (f .seat-lt) ≡ false =
             not-true _ (λ e. f .broken (process-edge-exactly t (f .process) (f .seat) (f .process-lt) (f .seat-lt) .0 e)) in
-            (omega (arith, f .here, within pl t (f .process) (f .seat) (f .process-lt) (f .seat-lt)), subst (λ x. bad-position pl x ≡ true) (sym (f .here)) (ap not none))
+            (omega (arith, f .here, within pl t (f .process) (f .seat) (f .process-lt) (f .seat-lt)), subst (λ x. bad-order-position pl x ≡ true) (sym (f .here)) (ap not none))
 
     -- where no position is bad, the plan has its processes
     pub processes-pass : ((i : ℕ) → Fault9 pl i → ⊥) → HasProcesses pl

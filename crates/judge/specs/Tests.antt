@@ -27,8 +27,8 @@ counter-0 counter increment nodes = sum (share counter increment 0) nodes
 
 module _ (pl : Plan) where
   -- number 9
-  abbrev pub bad-position : ℕ → Bool
-  bad-position = lacks-edge (pl .source) (pl .destination) (pl .tokens) (pl .edges) (pl .order) (pl .lengths) (pl .processes)
+  abbrev pub bad-order-position : ℕ → Bool
+  bad-order-position = lacks-edge (pl .source) (pl .destination) (pl .tokens) (pl .edges) (pl .order) (pl .lengths) (pl .processes)
 
   -- number 10
   abbrev pub bad-counter : ℕ → Bool
@@ -94,7 +94,7 @@ from-11-in crossing sums source destination counter increment nodes edges counte
 -- tests 9 to 16 of a plan value
 unfoldable pub from-9 : Plan → Answer
 from-9 pl =
-    refuse-lowest Refused 9 (bad-position pl) (pl .nodes)
+    refuse-lowest Refused 9 (bad-order-position pl) (pl .nodes)
     (refuse-lowest Refused 10 (bad-counter pl) (pl .counters)
     (from-11-in (crossing-table pl) (sum-table pl) (pl .source) (pl .destination) (pl .counter) (pl .increment) (pl .nodes) (pl .edges) (pl .counters)
     (pl .modulus) (counter-sum pl 0)))

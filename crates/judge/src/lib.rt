@@ -142,7 +142,7 @@ fn from_9<'a>(
     requires { ⌜ Tabled (plan-with nodes processes edges counters modulus 0 (now lengths) (now order) (now counter) (now increment) (now source) (now destination) (now tokens)) ⌝ }
     ensures { λ r. ⌜ r ≡ from-9 (plan-with nodes processes edges counters modulus 0 (now (lengths .entry)) (now (order .entry)) (now (counter .entry)) (now (increment .entry)) (now (source .entry)) (now (destination .entry)) (now (tokens .entry))) ⌝ }
 {
-    let position = rounds::first_bad_position(
+    let position = rounds::first_bad_order_position(
         source,
         destination,
         tokens,

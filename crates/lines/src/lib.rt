@@ -42,33 +42,33 @@ pub fn put_refusal(out: &mut [u8], answer: Answer) -> usize
 }
 
 // A word and a number, and the line's end.
-fn put_said(out: &mut [u8], place: usize, word: &[u8], n: u32) -> usize
-    requires { ⌜ (place < 1000000) × (length (now word) ≤ 9) ⌝ }
-    ensures { λ r. ⌜ Put (now (out .entry)) place (now (word .entry) ++ number-then n newline) (now (out .exit)) r × (r ≤ place + 20) ⌝ }
+fn put_said(out: &mut [u8], offset: usize, word: &[u8], n: u32) -> usize
+    requires { ⌜ (offset < 1000000) × (length (now word) ≤ 9) ⌝ }
+    ensures { λ r. ⌜ Put (now (out .entry)) offset (now (word .entry) ++ number-then n newline) (now (out .exit)) r × (r ≤ offset + 20) ⌝ }
 {
-    let next = put_word(out, place, word);
+    let next = put_word(out, offset, word);
     put_number(out, next, n, b'\n')
 }
 
 // `opened`, `found` or `wait` with edges left, or `fired` with the node, or `refused` with the number.
-fn put_reply(out: &mut [u8], place: usize, reply: Reply) -> usize
-    requires { ⌜ place < 1000000 ⌝ }
-    ensures { λ r. ⌜ Put (now (out .entry)) place (said reply) (now (out .exit)) r × (r ≤ place + 20) ⌝ }
+fn put_reply(out: &mut [u8], offset: usize, reply: Reply) -> usize
+    requires { ⌜ offset < 1000000 ⌝ }
+    ensures { λ r. ⌜ Put (now (out .entry)) offset (said reply) (now (out .exit)) r × (r ≤ offset + 20) ⌝ }
 {
     match reply {
-        Reply::Opened { edges } => put_said(out, place, b" opened ", edges),
-        Reply::Found { left } => put_said(out, place, b" found ", left),
-        Reply::Wait { left } => put_said(out, place, b" wait ", left),
-        Reply::Fired { node } => put_said(out, place, b" fired ", node),
-        Reply::Refused { number } => put_said(out, place, b" refused ", number),
+        Reply::Opened { edges } => put_said(out, offset, b" opened ", edges),
+        Reply::Found { left } => put_said(out, offset, b" found ", left),
+        Reply::Wait { left } => put_said(out, offset, b" wait ", left),
+        Reply::Fired { node } => put_said(out, offset, b" fired ", node),
+        Reply::Refused { number } => put_said(out, offset, b" refused ", number),
     }
 }
 
 // The line of a call: its index, and what was answered.
-pub fn put_line(out: &mut [u8], place: usize, index: u32, reply: Reply) -> usize
-    requires { ⌜ (place < 900000) × (index < 100000) ⌝ }
-    ensures { λ r. ⌜ Put (now (out .entry)) place (line index reply) (now (out .exit)) r × (r ≤ place + 25) ⌝ }
+pub fn put_line(out: &mut [u8], offset: usize, index: u32, reply: Reply) -> usize
+    requires { ⌜ (offset < 900000) × (index < 100000) ⌝ }
+    ensures { λ r. ⌜ Put (now (out .entry)) offset (line index reply) (now (out .exit)) r × (r ≤ offset + 25) ⌝ }
 {
-    let next = put_decimal(out, place, index);
+    let next = put_decimal(out, offset, index);
     put_reply(out, next, reply)
 }

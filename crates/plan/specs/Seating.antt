@@ -17,7 +17,7 @@ use Rattle.net.specs.Processes.{Edge}
 use Rattle.net.specs.Tables.{graph-of-tables}
 use Rattle.plan.specs.declared.Plan.{Plan}
 use Rattle.plan.specs.Value.{graph-of, base, node-at, HasProcesses, Sits, Synchronising}
-use Rattle.plan.specs.Tests.{stands-at, place-of, ends-past, process-at, home-of, home, seat, synchronises, different, home-table}
+use Rattle.plan.specs.Tests.{stands-at, order-position, ends-past, process-at, home-of, home, seat, synchronises, different, home-table}
 use Rattle.plan.specs.Tables.{Tabled}
 use Rattle.plan.specs.Formed.{past}
 use Rattle.plan.specs.Onto.{Once, onto}
@@ -49,16 +49,16 @@ module _ (lengths : List ℕ) (processes i : ℕ) where
 
 -- in an order of different nodes each has a position, at which it stands
 module _ (order : List ℕ) (nodes : ℕ) (once : Once (at order) nodes) where
-  pub placed-lt : (v : ℕ) → v < nodes → place-of order nodes v < nodes
-  unfolding place-of stands-at
+  pub placed-lt : (v : ℕ) → v < nodes → order-position order nodes v < nodes
+  unfolding order-position stands-at
   placed-lt v h =
-      elim (decLt (place-of order nodes v) nodes) [
+      elim (decLt (order-position order nodes v) nodes) [
         | yes l ↦ l
         | no l ↦ absurd (onto nodes (at order) once v h (λ i m. eqb-false _ _ (first-none (stands-at order v) nodes i (omega arith) m)))
       ]
 
-  pub placed-there : (v : ℕ) → v < nodes → at order (place-of order nodes v) ≡ v
-  unfolding place-of stands-at
+  pub placed-there : (v : ℕ) → v < nodes → at order (order-position order nodes v) ≡ v
+  unfolding order-position stands-at
   placed-there v h = eqb-true _ _ (first-here (stands-at order v) nodes (placed-lt v h))
 
 -- so it is in a plan whose tests pass
@@ -67,14 +67,14 @@ order-once pl t = record { small = t .order-lt; apart = t .order-apart }
 
 module _ (pl : Plan) (t : Tabled pl) where
   -- the position of a node, and the node of a position
-  pub place-lt : (v : ℕ) → v < pl .nodes → place-of (pl .order) (pl .nodes) v < pl .nodes
-  place-lt = placed-lt (pl .order) (pl .nodes) (order-once pl t)
+  pub order-position-lt : (v : ℕ) → v < pl .nodes → order-position (pl .order) (pl .nodes) v < pl .nodes
+  order-position-lt = placed-lt (pl .order) (pl .nodes) (order-once pl t)
 
-  pub node-there : (v : ℕ) → v < pl .nodes → at (pl .order) (place-of (pl .order) (pl .nodes) v) ≡ v
+  pub node-there : (v : ℕ) → v < pl .nodes → at (pl .order) (order-position (pl .order) (pl .nodes) v) ≡ v
   node-there = placed-there (pl .order) (pl .nodes) (order-once pl t)
 
-  pub place-is : (i : ℕ) → i < pl .nodes → place-of (pl .order) (pl .nodes) (at (pl .order) i) ≡ i
-  place-is i h = let l = t .order-lt i h in t .order-apart _ i (place-lt (at (pl .order) i) l) h (node-there (at (pl .order) i) l)
+  pub order-position-is : (i : ℕ) → i < pl .nodes → order-position (pl .order) (pl .nodes) (at (pl .order) i) ≡ i
+  order-position-is i h = let l = t .order-lt i h in t .order-apart _ i (order-position-lt (at (pl .order) i) l) h (node-there (at (pl .order) i) l)
 
   -- a seat is a position
   pub within : (p j : ℕ) → p < pl .processes → j < at (pl .lengths) p → base (pl .lengths) p + j < pl .nodes
@@ -89,8 +89,8 @@ module _ (pl : Plan) (t : Tabled pl) where
   pub sits : (v : ℕ) → v < pl .nodes → Sits pl v (home pl v) (seat pl v)
   unfolding home home-of seat node-at base sum
   sits v h =
-      let i : ℕ = place-of (pl .order) (pl .nodes) v in
-      let l : i < base (pl .lengths) (pl .processes) = omega (arith, place-lt v h, t .full) in
+      let i : ℕ = order-position (pl .order) (pl .nodes) v in
+      let l : i < base (pl .lengths) (pl .processes) = omega (arith, order-position-lt v h, t .full) in
       let low = begins-before (pl .lengths) (pl .processes) i (home pl v) (omega arith) in
       record {
         process-lt = process-at-lt (pl .lengths) (pl .processes) i l;
@@ -103,7 +103,7 @@ module _ (pl : Plan) (t : Tabled pl) where
   unfolding home home-of seat node-at base sum
   sits-unique {v} {p} {j} s =
       let i : ℕ = base (pl .lengths) p + j in
-      let at-i : place-of (pl .order) (pl .nodes) v ≡ i = ap (place-of (pl .order) (pl .nodes)) (sym (s .here)) ∙ place-is i (within p j (s .process-lt) (s .seat-lt)) in
+      let at-i : order-position (pl .order) (pl .nodes) v ≡ i = ap (order-position (pl .order) (pl .nodes)) (sym (s .here)) ∙ order-position-is i (within p j (s .process-lt) (s .seat-lt)) in
       let at-p : home pl v ≡ p =
       ap (process-at (pl .lengths) (pl .processes)) at-i
       ∙ process-at-is (pl .lengths) (pl .processes) i p (s .process-lt) (omega arith) (omega (arith, s .seat-lt)) in

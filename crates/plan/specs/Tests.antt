@@ -52,8 +52,8 @@ bad-edge source destination tokens nodes e =
 unfoldable pub stands-at : List ℕ → ℕ → ℕ → Bool
 stands-at order v i = eqb (at order i) v
 
-unfoldable pub place-of : List ℕ → ℕ → ℕ → ℕ
-place-of order nodes v = first (stands-at order v) nodes
+unfoldable pub order-position : List ℕ → ℕ → ℕ → ℕ
+order-position order nodes v = first (stands-at order v) nodes
 
 -- the process of a position
 unfoldable pub ends-past : List ℕ → ℕ → ℕ → Bool
@@ -64,7 +64,7 @@ process-at lengths processes i = first (ends-past lengths i) processes
 
 -- the process of a node
 unfoldable pub home-of : List ℕ → List ℕ → ℕ → ℕ → ℕ → ℕ
-home-of order lengths nodes processes v = process-at lengths processes (place-of order nodes v)
+home-of order lengths nodes processes v = process-at lengths processes (order-position order nodes v)
 
 unfoldable pub home : Plan → ℕ → ℕ
 home pl v = home-of (pl .order) (pl .lengths) (pl .nodes) (pl .processes) v
@@ -75,7 +75,7 @@ home-table pl = padded (home-of (pl .order) (pl .lengths) (pl .nodes) (pl .proce
 
 -- its seat in that process's round
 unfoldable pub seat : Plan → ℕ → ℕ
-seat pl v = place-of (pl .order) (pl .nodes) v - base (pl .lengths) (home pl v)
+seat pl v = order-position (pl .order) (pl .nodes) v - base (pl .lengths) (home pl v)
 
 -- the ends of an edge are in different processes
 unfoldable pub synchronises : Plan → ℕ → Bool

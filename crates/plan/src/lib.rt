@@ -77,7 +77,7 @@ pub fn counter_sum<'a>(
 }
 
 // The process of an order position, or the number of processes past the last one's end.
-pub fn process_of_position(lengths: &[u16; 64], processes: usize, i: usize) -> usize
+pub fn process_of_order_position(lengths: &[u16; 64], processes: usize, i: usize) -> usize
     requires { ⌜ processes ≤ 64 ⌝ }
     ensures { λ r. ⌜ r ≡ process-at (now (lengths .entry)) processes i ⌝ }
 {

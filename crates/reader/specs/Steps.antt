@@ -17,13 +17,13 @@ use Rattle.judge.specs.declared.Answer.the-variants.{Accepted, Refused}
 use Rattle.plan.specs.Tests.{refuse-if}
 use Rattle.judge.specs.Tests.{from-5}
 use Rattle.judge.specs.Decided.{from-5-numbers, without-q}
-use Rattle.reader.specs.declared.Reading.{Reading}
+use Rattle.reader.specs.declared.ReadPlan.{ReadPlan}
 use Rattle.bytes.specs.LittleEndian.{two-bytes, four-bytes}
 use Rattle.image.specs.Image.{tables-of, plan-of}
 use Rattle.reader.specs.HeaderFaults.{offsets-exactly}
 use Rattle.reader.specs.Theorems.{q-is}
 use Rattle.image.specs.Room.{Laid}
-use Rattle.reader.specs.Tests.{verdict, no-plan, plan-beside, reading-of}
+use Rattle.reader.specs.Tests.{verdict, no-plan, plan-beside, read-of}
 use Rattle.image.specs.Header.{good-format, good-offsets}
 
 -- the plan beside an answer, with that answer's Q
@@ -32,11 +32,11 @@ filled (Accepted q modulus least) pl = with-q pl q
 filled (Refused number place) pl = no-plan
 
 -- an answer with the plan beside it
-unfoldable pub with-plan : Answer → Plan → Reading
+unfoldable pub with-plan : Answer → Plan → ReadPlan
 with-plan a pl = record { answer = a; plan = filled a pl }
 
 -- a refusal with nothing of the plan beside it
-unfoldable pub refusal-of : ℕ → Reading
+unfoldable pub refusal-of : ℕ → ReadPlan
 refusal-of number = record { answer = Refused number 0; plan = no-plan }
 
 module _ (s : List ℕ) where
@@ -47,34 +47,34 @@ module _ (s : List ℕ) where
   filled-is (Accepted q modulus least) pl same is = ap (with-q pl) (is q modulus least refl) ∙ same
   filled-is (Refused number place) pl same is = refl
 
-  refused-is : (number : ℕ) → verdict s ≡ Refused number 0 → refusal-of number ≡ reading-of s
-  unfolding refusal-of reading-of plan-beside
+  refused-is : (number : ℕ) → verdict s ≡ Refused number 0 → refusal-of number ≡ read-of s
+  unfolding refusal-of read-of plan-beside
   refused-is number e = sym (ap (λ a. record { answer = a; plan = plan-beside a (plan-of s) }) e)
 
   abbrev pub counts-bad : Bool
   counts-bad = bad-counts (two-bytes s 2) (two-bytes s 4) (two-bytes s 6) (two-bytes s 8) (four-bytes s 12)
 
-  pub stops-at-1 : length s < 36 → refusal-of 1 ≡ reading-of s
+  pub stops-at-1 : length s < 36 → refusal-of 1 ≡ read-of s
   unfolding verdict refuse-if
   stops-at-1 h = refused-is 1 (if-true _ _ _ (lt-ltb _ _ h))
 
-  pub stops-at-2 : 36 ≤ length s → good-format s ≡ false → refusal-of 2 ≡ reading-of s
+  pub stops-at-2 : 36 ≤ length s → good-format s ≡ false → refusal-of 2 ≡ read-of s
   unfolding verdict refuse-if
   stops-at-2 h f = refused-is 2 (if-false _ _ _ (le-ltb _ _ h) ∙ if-false _ _ _ f)
 
-  pub stops-at-3 : 36 ≤ length s → good-format s ≡ true → counts-bad ≡ true → refusal-of 3 ≡ reading-of s
+  pub stops-at-3 : 36 ≤ length s → good-format s ≡ true → counts-bad ≡ true → refusal-of 3 ≡ read-of s
   unfolding verdict refuse-if
   stops-at-3 h f b = refused-is 3 (if-false _ _ _ (le-ltb _ _ h) ∙ if-true _ _ _ f ∙ if-true _ _ _ b)
 
-  pub stops-at-4 : 36 ≤ length s → good-format s ≡ true → counts-bad ≡ false → good-offsets s ≡ false → refusal-of 4 ≡ reading-of s
+  pub stops-at-4 : 36 ≤ length s → good-format s ≡ true → counts-bad ≡ false → good-offsets s ≡ false → refusal-of 4 ≡ read-of s
   unfolding verdict refuse-if
   stops-at-4 h f b o =
       refused-is 4 (if-false _ _ _ (le-ltb _ _ h) ∙ if-true _ _ _ f ∙ if-false _ _ _ b ∙ if-false _ _ _ o)
 
   -- the answer of the tests from 5 on, with the plan that it accepts
   pub goes-on : (pl : Plan) → 36 ≤ length s → good-format s ≡ true → counts-bad ≡ false → good-offsets s ≡ true → with-q pl (plan-of s .q) ≡ plan-of s
-      → with-plan (from-5 (plan-of s)) pl ≡ reading-of s
-  unfolding verdict refuse-if with-plan reading-of tables-of plan-of
+      → with-plan (from-5 (plan-of s)) pl ≡ read-of s
+  unfolding verdict refuse-if with-plan read-of tables-of plan-of
   goes-on pl h f b o same =
       let e : verdict s ≡ from-5 (plan-of s) = if-false _ _ _ (le-ltb _ _ h) ∙ if-true _ _ _ f ∙ if-false _ _ _ b ∙ if-true _ _ _ o in
       let n3 = passes-3 (plan-of s) .0 b in

@@ -11,7 +11,7 @@ use Rattle.plan.specs.Tests.{bad-counts, refuse-if}
 use Rattle.judge.specs.declared.Answer.{Answer}
 use Rattle.judge.specs.declared.Answer.the-variants.{Accepted, Refused}
 use Rattle.judge.specs.Tests.{from-5}
-use Rattle.reader.specs.declared.Reading.{Reading}
+use Rattle.reader.specs.declared.ReadPlan.{ReadPlan}
 use Rattle.bytes.specs.LittleEndian.{two-bytes, four-bytes}
 use Rattle.image.specs.Image.{plan-of}
 use Rattle.image.specs.Header.{good-format, good-offsets}
@@ -49,8 +49,8 @@ unfoldable pub plan-beside : Answer → Plan → Plan
 plan-beside (Accepted q modulus least) pl = pl
 plan-beside (Refused number place) pl = no-plan
 
-unfoldable pub reading-of : List ℕ → Reading
-reading-of s = record { answer = verdict s; plan = plan-beside (verdict s) (plan-of s) }
+unfoldable pub read-of : List ℕ → ReadPlan
+read-of s = record { answer = verdict s; plan = plan-beside (verdict s) (plan-of s) }
 
 -- the image is accepted
 abbrev pub IsAccepted : List ℕ → Type 0

@@ -14,11 +14,11 @@ use Rattle.judge.specs.Sound.{Upheld, Sound}
 use Rattle.judge.specs.Tests.{least-modulus}
 use Rattle.judge.specs.Decided.{accepted, not-accepted}
 use Rattle.judge.specs.Theorems as judge
-use Rattle.reader.specs.declared.Reading.{Reading}
+use Rattle.reader.specs.declared.ReadPlan.{ReadPlan}
 use Rattle.image.specs.Image.{plan-of}
 use Rattle.reader.specs.Faults.{image-order}
 use Rattle.reader.specs.Layout.{Layout}
-use Rattle.reader.specs.Tests.{verdict, no-plan, plan-beside, reading-of, IsAccepted}
+use Rattle.reader.specs.Tests.{verdict, no-plan, plan-beside, read-of, IsAccepted}
 use Rattle.reader.specs.Decided.{outcome, none-exactly, each-number-of-image}
 
 module _ (s : List ℕ) where
@@ -80,18 +80,18 @@ module _ (s : List ℕ) where
   accepted-sound a = let h = accepted-exactly .0 a in judge.sound (plan-of s) (h .0 .tables) (h .1) q-is
 
   -- "the plan's tables stand beside it, with 0 past the counts, and all 0 after a refusal"
-  pub nothing-of-the-plan : (k p : ℕ) → verdict s ≡ Refused k p → reading-of s .plan ≡ no-plan
-  unfolding reading-of plan-beside
+  pub nothing-of-the-plan : (k p : ℕ) → verdict s ≡ Refused k p → read-of s .plan ≡ no-plan
+  unfolding read-of plan-beside
   nothing-of-the-plan k p e = ap (λ a. plan-beside a (plan-of s)) e
 
-  pub all-of-the-plan : IsAccepted s → reading-of s .plan ≡ plan-of s
-  unfolding reading-of plan-beside
+  pub all-of-the-plan : IsAccepted s → read-of s .plan ≡ plan-of s
+  unfolding read-of plan-beside
   all-of-the-plan a = ap (λ b. plan-beside b (plan-of s)) (a .3)
 
-  pub answer-is : reading-of s .answer ≡ verdict s
-  unfolding reading-of
+  pub answer-is : read-of s .answer ≡ verdict s
+  unfolding read-of
   answer-is = refl
 
 -- the promise of `read` leaves room for one answer and one plan
-pub read-unique : (s : List ℕ) {r r′ : Reading} → r ≡ reading-of s → r′ ≡ reading-of s → r ≡ r′
+pub read-unique : (s : List ℕ) {r r′ : ReadPlan} → r ≡ read-of s → r′ ≡ read-of s → r ≡ r′
 read-unique s = one-answer

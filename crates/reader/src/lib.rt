@@ -4,13 +4,13 @@ ghost use mathlib.Core.Bool.{true};
 ghost use Prim.Native.Nat.{_≤_};
 ghost use lib.ListN.{length};
 ghost use Rattle.image.specs.Header.{good-format};
-ghost use Rattle.reader.specs.Tests.{no-plan, reading-of};
+ghost use Rattle.reader.specs.Tests.{no-plan, read-of};
 ghost use Rattle.reader.specs.Steps.{with-plan, refusal-of};
 use judge::Answer;
 use plan::Plan;
 
 // The answer, and beside it the plan: all 0 after a refusal.
-pub struct Reading {
+pub struct ReadPlan {
     pub answer: Answer,
     pub plan: Plan,
 }
@@ -37,29 +37,29 @@ fn empty_plan() -> Plan
 }
 
 // A refusal at place 0, with nothing of the plan.
-fn refusal(number: u32) -> Reading
+fn refusal(number: u32) -> ReadPlan
     ensures { λ r. ⌜ r ≡ refusal-of number ⌝ }
 {
-    Reading {
+    ReadPlan {
         answer: Answer::Refused { number, place: 0 },
         plan: empty_plan(),
     }
 }
 
 // The plan beside the answer that accepts it, with that answer's Q; nothing of it beside a refusal.
-fn beside(answer: Answer, plan: Plan) -> Reading
+fn beside(answer: Answer, plan: Plan) -> ReadPlan
     ensures { λ r. ⌜ r ≡ with-plan answer plan ⌝ }
 {
     match answer {
         Answer::Accepted { q, modulus, least } => {
             let mut filled = plan;
             filled.q = q;
-            Reading {
+            ReadPlan {
                 answer: Answer::Accepted { q, modulus, least },
                 plan: filled,
             }
         }
-        Answer::Refused { number, place } => Reading {
+        Answer::Refused { number, place } => ReadPlan {
             answer: Answer::Refused { number, place },
             plan: empty_plan(),
         },
@@ -67,8 +67,8 @@ fn beside(answer: Answer, plan: Plan) -> Reading
 }
 
 // A plan image read: Q, N and the least modulus with the plan, or a number and a place and nothing of the plan.
-pub fn read(image: &[u8]) -> Reading
-    ensures { λ r. ⌜ r ≡ reading-of (now (image .entry)) ⌝ }
+pub fn read(image: &[u8]) -> ReadPlan
+    ensures { λ r. ⌜ r ≡ read-of (now (image .entry)) ⌝ }
 {
     if image.len() < 36 {
         return refusal(1);
@@ -80,9 +80,9 @@ pub fn read(image: &[u8]) -> Reading
 }
 
 // Test 3, and what comes after it.
-fn read_counted(image: &[u8]) -> Reading
+fn read_counted(image: &[u8]) -> ReadPlan
     requires { ⌜ (36 ≤ length (now image)) × (good-format (now image) ≡ true) ⌝ }
-    ensures { λ r. ⌜ r ≡ reading-of (now (image .entry)) ⌝ }
+    ensures { λ r. ⌜ r ≡ read-of (now (image .entry)) ⌝ }
 {
     let counts = entries::counts_bad(
         bytes::pair_at(image, 2),

@@ -21,8 +21,8 @@ unfoldable pub is-last : List ℕ → ℕ → ℕ → Bool
 is-last lengths processes i = eqb (suc i) (base lengths (suc (process-at lengths processes i)))
 
 -- the position that fires after position i: the next, or the first of the process
-unfoldable pub next-position : List ℕ → ℕ → ℕ → ℕ
-next-position lengths processes i = if (is-last lengths processes i) (base lengths (process-at lengths processes i)) (suc i)
+unfoldable pub fires-after : List ℕ → ℕ → ℕ → ℕ
+fires-after lengths processes i = if (is-last lengths processes i) (base lengths (process-at lengths processes i)) (suc i)
 
 -- the tokens that the process edge from position i starts with
 unfoldable pub edge-tokens : List ℕ → ℕ → ℕ → ℕ
@@ -35,7 +35,7 @@ has-counter counter c v = eqb (at counter v) c
 -- number 9
 unfoldable pub lacks-edge : List ℕ → List ℕ → List ℕ → ℕ → List ℕ → List ℕ → ℕ → ℕ → Bool
 lacks-edge source destination tokens edges order lengths processes i =
-    not (any (is-edge source destination tokens (at order i) (at order (next-position lengths processes i)) (edge-tokens lengths processes i)) edges)
+    not (any (is-edge source destination tokens (at order i) (at order (fires-after lengths processes i)) (edge-tokens lengths processes i)) edges)
 
 -- number 10: node v has counter c and is in another process than node f
 unfoldable pub strays-in : List ℕ → List ℕ → ℕ → ℕ → ℕ → Bool

@@ -13,11 +13,11 @@ use Rattle.loops.specs.Sum.{sum-step}
 use Rattle.plan.specs.Value.{base}
 use Rattle.plan.specs.Tests.{process-at}
 use Rattle.plan.specs.Seating.{begins-before, process-at-lt, ends-after}
-use Rattle.rounds.specs.Lent.{is-last, next-position}
+use Rattle.rounds.specs.Lent.{is-last, fires-after}
 
-pub next-position-lt : (lengths : List ℕ) (processes i : ℕ) → i < base lengths processes → next-position lengths processes i < base lengths processes
-unfolding next-position is-last if base
-next-position-lt lengths processes i h = by-test (eqb (suc i) (base lengths (suc p))) refl
+pub fires-after-lt : (lengths : List ℕ) (processes i : ℕ) → i < base lengths processes → fires-after lengths processes i < base lengths processes
+unfolding fires-after is-last if base
+fires-after-lt lengths processes i h = by-test (eqb (suc i) (base lengths (suc p))) refl
   where
     p : ℕ
     p = process-at lengths processes i

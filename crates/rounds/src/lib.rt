@@ -5,7 +5,7 @@ ghost use Prim.Native.Nat.{_<_, _≤_};
 ghost use Rattle.loops.specs.First.{first};
 ghost use Rattle.loops.specs.Any.{any};
 ghost use Rattle.plan.specs.Value.{base};
-ghost use Rattle.rounds.specs.Lent.{is-edge, is-last, next-position, edge-tokens, lacks-edge, has-counter, strays-in, bad-counter-in, sends-in, bad-increment-in, bad-sum-in};
+ghost use Rattle.rounds.specs.Lent.{is-edge, is-last, fires-after, edge-tokens, lacks-edge, has-counter, strays-in, bad-counter-in, sends-in, bad-increment-in, bad-sum-in};
 
 // An edge leads from m to n with t tokens.
 fn is_edge_at<'a>(
@@ -59,17 +59,17 @@ fn is_last_at(lengths: &[u16; 64], processes: usize, i: usize) -> bool
     requires { ⌜ (processes ≤ 64) × (i < 64) × (i < base (now lengths) processes) ⌝ }
     ensures { λ r. ⌜ r ≡ is-last (now (lengths .entry)) processes i ⌝ }
 {
-    let p = plan::process_of_position(lengths, processes, i);
+    let p = plan::process_of_order_position(lengths, processes, i);
     i + 1 == plan::lengths_sum(lengths, p + 1)
 }
 
 // The order position that fires after position i: the next, or the first of the process.
-fn next_position_of(lengths: &[u16; 64], processes: usize, i: usize) -> usize
+fn fires_after(lengths: &[u16; 64], processes: usize, i: usize) -> usize
     requires { ⌜ (processes ≤ 64) × (i < 64) × (i < base (now lengths) processes) ⌝ }
-    ensures { λ r. ⌜ r ≡ next-position (now (lengths .entry)) processes i ⌝ }
+    ensures { λ r. ⌜ r ≡ fires-after (now (lengths .entry)) processes i ⌝ }
 {
     if is_last_at(lengths, processes, i) {
-        let p = plan::process_of_position(lengths, processes, i);
+        let p = plan::process_of_order_position(lengths, processes, i);
         plan::lengths_sum(lengths, p)
     } else {
         i + 1
@@ -86,7 +86,7 @@ fn edge_tokens_of(lengths: &[u16; 64], processes: usize, i: usize) -> u16
 }
 
 // The process edge from position i is missing or has wrong tokens.
-fn bad_position_at<'a>(
+fn bad_order_position_at<'a>(
     source: &'a [u16; 512],
     destination: &'a [u16; 512],
     tokens: &'a [u16; 512],
@@ -99,13 +99,13 @@ fn bad_position_at<'a>(
     requires { ⌜ (edges ≤ 512) × (processes ≤ 64) × (base (now lengths) processes ≤ 64) × (i < base (now lengths) processes) ⌝ }
     ensures { λ r. ⌜ r ≡ lacks-edge (now (source .entry)) (now (destination .entry)) (now (tokens .entry)) edges (now (order .entry)) (now (lengths .entry)) processes i ⌝ }
 {
-    let next = next_position_of(lengths, processes, i);
+    let next = fires_after(lengths, processes, i);
     let t = edge_tokens_of(lengths, processes, i);
     !has_edge(source, destination, tokens, edges, order[i], order[next], t)
 }
 
 // Number 9: the lowest order position whose process edge is missing or has wrong tokens, or the number of nodes.
-pub fn first_bad_position<'a>(
+pub fn first_bad_order_position<'a>(
     source: &'a [u16; 512],
     destination: &'a [u16; 512],
     tokens: &'a [u16; 512],
@@ -120,7 +120,7 @@ pub fn first_bad_position<'a>(
 {
     let mut i: usize = 0;
     while i < nodes {
-        if bad_position_at(
+        if bad_order_position_at(
             source,
             destination,
             tokens,

@@ -17,7 +17,7 @@ use Rattle.loops.specs.Sum.{sum, sum-step}
 use Rattle.loops.specs.Table.{padded, padded-length, padded-at, padded-past, zeros-at}
 use Rattle.plan.specs.Onto.{Once}
 use Rattle.plan.specs.Value.{base}
-use Rattle.plan.specs.Tests.{place-of, ends-past, process-at, home-of}
+use Rattle.plan.specs.Tests.{order-position, ends-past, process-at, home-of}
 use Rattle.plan.specs.Seating.{process-at-is, placed-lt, placed-there}
 
 -- process p, which begins at `start`, is there and ends at or before position i
@@ -118,7 +118,7 @@ housed-over {order} {lengths} {nodes} {processes} {i = i} {x = x} inv h few once
     (λ k l.
     elim (decLt k nodes) [
       | yes y ↦
-          ap (at x) (sym (placed-there order nodes once k y)) ∙ inv .done (place-of order nodes k) (omega (arith, placed-lt order nodes once k y, inv .within))
+          ap (at x) (sym (placed-there order nodes once k y)) ∙ inv .done (order-position order nodes k) (omega (arith, placed-lt order nodes once k y, inv .within))
           ∙ sym (padded-at f 64 nodes k y)
       | no y ↦ inv .rest k (λ j m z. omega (arith, once .small j (omega (arith, inv .within)))) ∙ sym (padded-past f 64 nodes k (omega arith))
     ])

@@ -4,7 +4,7 @@ ghost use Prim.Native.Nat.{_<_, _≤_};
 ghost use Rattle.loops.specs.Choice.{at};
 ghost use Rattle.loops.specs.Table.{padded};
 ghost use Rattle.plan.specs.Onto.{Once};
-ghost use Rattle.plan.specs.Tests.{stands-at, place-of, home-of, different};
+ghost use Rattle.plan.specs.Tests.{stands-at, order-position, home-of, different};
 ghost use Rattle.seats.specs.Housed.{ended};
 ghost use Rattle.seats.specs.Crossing.{crosses, EndsOk};
 
@@ -17,9 +17,9 @@ fn stands_at(order: &[u16; 64], v: usize, i: usize) -> bool
 }
 
 // The order position of a node, or the number of nodes where it has none.
-pub fn position_of_node(order: &[u16; 64], nodes: usize, v: usize) -> usize
+pub fn order_position_of(order: &[u16; 64], nodes: usize, v: usize) -> usize
     requires { ⌜ nodes ≤ 64 ⌝ }
-    ensures { λ r. ⌜ r ≡ place-of (now (order .entry)) nodes v ⌝ }
+    ensures { λ r. ⌜ r ≡ order-position (now (order .entry)) nodes v ⌝ }
 {
     let mut i: usize = 0;
     while i < nodes {

@@ -11,37 +11,37 @@ use machine::Reply;
 use machine::State;
 use plan::Plan;
 
-// The state that requests leave, and the place behind their lines.
+// The state that requests leave, and the offset behind their lines.
 pub struct Answered {
     pub state: State,
-    pub place: usize,
+    pub offset: usize,
 }
 
 // A call's answer.
-fn put_reply(out: &mut [u8; 65536], place: usize, reply: Reply) -> usize {
+fn put_reply(out: &mut [u8; 65536], offset: usize, reply: Reply) -> usize {
     match reply {
-        Reply::Opened { edges } => put_line(out, place, b"opened ", edges),
-        Reply::Found { left } => put_line(out, place, b"found ", left),
-        Reply::Wait { left } => put_line(out, place, b"wait ", left),
-        Reply::Fired { node } => put_line(out, place, b"fired ", node),
-        Reply::Refused { number } => put_line(out, place, b"refused ", number),
+        Reply::Opened { edges } => put_line(out, offset, b"opened ", edges),
+        Reply::Found { left } => put_line(out, offset, b"found ", left),
+        Reply::Wait { left } => put_line(out, offset, b"wait ", left),
+        Reply::Fired { node } => put_line(out, offset, b"fired ", node),
+        Reply::Refused { number } => put_line(out, offset, b"refused ", number),
     }
 }
 
 // A token reading's answer.
-fn put_level(out: &mut [u8; 65536], place: usize, level: Level) -> usize {
+fn put_level(out: &mut [u8; 65536], offset: usize, level: Level) -> usize {
     match level {
-        Level::Tokens { count } => put_line(out, place, b"tokens ", count),
-        Level::Unread { number } => put_line(out, place, b"refused ", number),
+        Level::Tokens { count } => put_line(out, offset, b"tokens ", count),
+        Level::Unread { number } => put_line(out, offset, b"refused ", number),
     }
 }
 
 // A beginning's answer.
-fn put_began(out: &mut [u8; 65536], place: usize, number: u32) -> usize {
+fn put_began(out: &mut [u8; 65536], offset: usize, number: u32) -> usize {
     if number == 0 {
-        return put_word(out, place, b"begun\n");
+        return put_word(out, offset, b"begun\n");
     }
-    put_line(out, place, b"refused ", number)
+    put_line(out, offset, b"refused ", number)
 }
 
 // A call.
@@ -51,7 +51,7 @@ fn put_call(
     record: &[u8; 65536],
     at: usize,
     out: &mut [u8; 65536],
-    place: usize,
+    offset: usize,
 ) -> Answered
     requires { ⌜ at < 65536 ⌝ }
 {
@@ -63,7 +63,7 @@ fn put_call(
     let after = turned.state;
     Answered {
         state: after,
-        place: put_reply(out, place, reply),
+        offset: put_reply(out, offset, reply),
     }
 }
 
@@ -74,7 +74,7 @@ fn put_reading(
     record: &[u8; 65536],
     at: usize,
     out: &mut [u8; 65536],
-    place: usize,
+    offset: usize,
 ) -> Answered
     requires { ⌜ at < 65536 ⌝ }
 {
@@ -82,17 +82,17 @@ fn put_reading(
     let after = state;
     Answered {
         state: after,
-        place: put_level(out, place, level),
+        offset: put_level(out, offset, level),
     }
 }
 
 // A beginning.
-fn put_beginning(plan: Plan, out: &mut [u8; 65536], place: usize) -> Answered {
+fn put_beginning(plan: Plan, out: &mut [u8; 65536], offset: usize) -> Answered {
     let began = calls::begin(plan);
     let after = began.state;
     Answered {
         state: after,
-        place: put_began(out, place, began.number),
+        offset: put_began(out, offset, began.number),
     }
 }
 
@@ -103,18 +103,18 @@ fn put_request(
     record: &[u8; 65536],
     at: usize,
     out: &mut [u8; 65536],
-    place: usize,
+    offset: usize,
 ) -> Answered
     requires { ⌜ at < 65536 ⌝ }
 {
     let kind = byte_at(record, at);
     if kind == 0 {
-        return put_call(plan, state, record, at, out, place);
+        return put_call(plan, state, record, at, out, offset);
     }
     if kind == 1 {
-        return put_reading(plan, state, record, at, out, place);
+        return put_reading(plan, state, record, at, out, offset);
     }
-    put_beginning(plan, out, place)
+    put_beginning(plan, out, offset)
 }
 
 // All requests of a record.
@@ -124,22 +124,22 @@ pub fn put_requests(
     record: &[u8; 65536],
     length: usize,
     out: &mut [u8; 65536],
-    place: usize,
+    offset: usize,
 ) -> Answered
     requires { ⌜ length ≤ 65536 ⌝ }
 {
     let mut state = begun;
-    let mut next = place;
+    let mut next = offset;
     let mut at = requests_place(record);
     while at < length {
         let answered = put_request(plan, state, record, at, out, next);
-        next = answered.place;
+        next = answered.offset;
         state = answered.state;
         at += 13;
     }
     let after = state;
     Answered {
         state: after,
-        place: next,
+        offset: next,
     }
 }

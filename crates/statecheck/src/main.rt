@@ -16,10 +16,10 @@ enum Next {
     End,
 }
 
-// The place behind what was put, and whether the stream may go on.
+// The offset behind what was put, and whether the stream may go on.
 struct Done {
     more: bool,
-    place: usize,
+    offset: usize,
 }
 
 // Reads bytes of the stream, the buffer's length of them: fewer where the stream is cut. A read that fails is told and cuts it, too.
@@ -49,11 +49,11 @@ fn put_case(
     record: &[u8; 65536],
     length: usize,
     out: &mut [u8; 65536],
-    place: usize,
+    offset: usize,
 ) -> usize
     requires { ⌜ length ≤ 65536 ⌝ }
 {
-    let behind_number = text::put_line(out, place, b"case ", number);
+    let behind_number = text::put_line(out, offset, b"case ", number);
     let plan = record::plan_in(record);
     let state = record::state_in(record);
     let answered = answers::put_requests(plan, state, record, length, out, behind_number);
@@ -65,48 +65,54 @@ fn put_case(
         &after.counters,
         after.turn,
         out,
-        answered.place,
+        answered.offset,
     )
 }
 
 // Reads a record and puts its text. A record that is too long or cut, and a write that fails, end the stream.
-fn answer_case(number: u32, length: usize, out: &mut [u8; 65536], place: usize) -> Done {
+fn answer_case(number: u32, length: usize, out: &mut [u8; 65536], offset: usize) -> Done {
     if 65536 < length {
-        return Done { more: false, place };
+        return Done {
+            more: false,
+            offset,
+        };
     }
     let mut record = io::large_buffer();
     let got = read(&mut record[..length]);
     if got < length {
-        return Done { more: false, place };
+        return Done {
+            more: false,
+            offset,
+        };
     }
-    let next = put_case(number, &record, length, out, place);
+    let next = put_case(number, &record, length, out, offset);
     Done {
         more: !text::is_lost(next),
-        place: next,
+        offset: next,
     }
 }
 
-// Answers every record; the place behind what is not yet written.
+// Answers every record; the offset behind what is not yet written.
 fn answer_all(out: &mut [u8; 65536]) -> usize {
-    let mut place: usize = 0;
+    let mut offset: usize = 0;
     let mut number: u32 = 0;
     while number < 4294967295 {
         let Next::Record { length } = next_record() else {
-            return place;
+            return offset;
         };
-        let done = answer_case(number, length, out, place);
-        place = done.place;
+        let done = answer_case(number, length, out, offset);
+        offset = done.offset;
         if !done.more {
-            return place;
+            return offset;
         }
         number += 1;
     }
-    place
+    offset
 }
 
 // Answers the stream on standard input and writes what is left in the buffer.
 fn main() {
     let mut out = io::large_buffer();
-    let place = answer_all(&mut out);
-    text::write_rest(&out, place);
+    let offset = answer_all(&mut out);
+    text::write_rest(&out, offset);
 }

@@ -12,29 +12,29 @@ pub fn length_in(bytes: &[u8; 4]) -> usize {
 }
 
 // A byte.
-pub fn byte_at(record: &[u8; 65536], place: usize) -> u8 {
-    if place < 65536 { record[place] } else { 0 }
+pub fn byte_at(record: &[u8; 65536], offset: usize) -> u8 {
+    if offset < 65536 { record[offset] } else { 0 }
 }
 
 // A number of two bytes.
-fn pair_at(record: &[u8; 65536], place: usize) -> u16
-    requires { ⌜ place < 1000000 ⌝ }
+fn pair_at(record: &[u8; 65536], offset: usize) -> u16
+    requires { ⌜ offset < 1000000 ⌝ }
 {
-    bytes::pair_of(byte_at(record, place), byte_at(record, place + 1))
+    bytes::pair_of(byte_at(record, offset), byte_at(record, offset + 1))
 }
 
 // A number of four bytes.
-pub fn number_at(record: &[u8; 65536], place: usize) -> u32
-    requires { ⌜ place < 900000 ⌝ }
+pub fn number_at(record: &[u8; 65536], offset: usize) -> u32
+    requires { ⌜ offset < 900000 ⌝ }
 {
-    bytes::quad_of(pair_at(record, place), pair_at(record, place + 2))
+    bytes::quad_of(pair_at(record, offset), pair_at(record, offset + 2))
 }
 
 // A count of four bytes. A plan value holds a count in two bytes: one above 65,535 is read as 65,535, which is out of shape as well.
-fn count_at(record: &[u8; 65536], place: usize) -> u16
-    requires { ⌜ place < 900000 ⌝ }
+fn count_at(record: &[u8; 65536], offset: usize) -> u16
+    requires { ⌜ offset < 900000 ⌝ }
 {
-    let count = number_at(record, place);
+    let count = number_at(record, offset);
     if 65535 < count {
         return 65535;
     }
@@ -46,11 +46,11 @@ fn table_of_64(record: &[u8; 65536], from: usize, apart: usize) -> [u16; 64]
     requires { ⌜ (from ≤ 65536) × (apart ≤ 6) ⌝ }
 {
     let mut table: [u16; 64] = [0; 64];
-    let mut place = from;
+    let mut offset = from;
     let mut i: usize = 0;
     while i < 64 {
-        table[i] = pair_at(record, place);
-        place += apart;
+        table[i] = pair_at(record, offset);
+        offset += apart;
         i += 1;
     }
     table
@@ -61,11 +61,11 @@ fn table_of_512(record: &[u8; 65536], from: usize) -> [u16; 512]
     requires { ⌜ from ≤ 65536 ⌝ }
 {
     let mut table: [u16; 512] = [0; 512];
-    let mut place = from;
+    let mut offset = from;
     let mut i: usize = 0;
     while i < 512 {
-        table[i] = pair_at(record, place);
-        place += 6;
+        table[i] = pair_at(record, offset);
+        offset += 6;
         i += 1;
     }
     table
@@ -132,9 +132,9 @@ fn marks_in(record: &[u8; 65536]) -> [u8; 32768] {
     let count = marks_count(record);
     let mut i: usize = 0;
     while i < count {
-        let place = 4062 + 4 * i;
-        let mark = mark_place(byte_at(record, place), pair_at(record, place + 2));
-        marks[mark] = byte_at(record, place + 1);
+        let offset = 4062 + 4 * i;
+        let mark = mark_place(byte_at(record, offset), pair_at(record, offset + 2));
+        marks[mark] = byte_at(record, offset + 1);
         i += 1;
     }
     marks

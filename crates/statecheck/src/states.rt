@@ -6,18 +6,18 @@ use crate::text::put_number;
 use crate::text::put_word;
 
 // A counter that is not 0.
-fn put_counter(out: &mut [u8; 65536], place: usize, c: u32, value: u32) -> usize {
+fn put_counter(out: &mut [u8; 65536], offset: usize, c: u32, value: u32) -> usize {
     if value == 0 {
-        return place;
+        return offset;
     }
-    let behind_word = put_word(out, place, b"counter ");
+    let behind_word = put_word(out, offset, b"counter ");
     let behind_counter = put_number(out, behind_word, c, b' ');
     put_number(out, behind_counter, value, b'\n')
 }
 
 // The counters that are not 0.
-fn put_counters(counters: &[u32; 64], out: &mut [u8; 65536], place: usize) -> usize {
-    let mut next = place;
+fn put_counters(counters: &[u32; 64], out: &mut [u8; 65536], offset: usize) -> usize {
+    let mut next = offset;
     let mut c: usize = 0;
     while c < 64 {
         next = put_counter(out, next, c as u32, counters[c]);
@@ -27,38 +27,38 @@ fn put_counters(counters: &[u32; 64], out: &mut [u8; 65536], place: usize) -> us
 }
 
 // A process's position and open flag.
-fn put_process(out: &mut [u8; 65536], place: usize, p: u32, position: u16, open: u8) -> usize {
-    let behind_word = put_word(out, place, b"process ");
+fn put_process(out: &mut [u8; 65536], offset: usize, p: u32, position: u16, open: u8) -> usize {
+    let behind_word = put_word(out, offset, b"process ");
     let behind_process = put_number(out, behind_word, p, b' ');
     let behind_position = put_number(out, behind_process, position as u32, b' ');
     put_number(out, behind_position, open as u32, b'\n')
 }
 
 // A process's position and open flag where one of both is not 0.
-fn put_process_if(out: &mut [u8; 65536], place: usize, p: u32, position: u16, open: u8) -> usize {
+fn put_process_if(out: &mut [u8; 65536], offset: usize, p: u32, position: u16, open: u8) -> usize {
     if 0 < position {
-        return put_process(out, place, p, position, open);
+        return put_process(out, offset, p, position, open);
     }
     if 0 < open {
-        return put_process(out, place, p, position, open);
+        return put_process(out, offset, p, position, open);
     }
-    place
+    offset
 }
 
 // A mark.
-fn put_mark(out: &mut [u8; 65536], place: usize, p: u32, e: u32, value: u8) -> usize {
-    let behind_word = put_word(out, place, b"mark ");
+fn put_mark(out: &mut [u8; 65536], offset: usize, p: u32, e: u32, value: u8) -> usize {
+    let behind_word = put_word(out, offset, b"mark ");
     let behind_process = put_number(out, behind_word, p, b' ');
     let behind_edge = put_number(out, behind_process, e, b' ');
     put_number(out, behind_edge, value as u32, b'\n')
 }
 
 // The marks of a process that are not 0.
-fn put_marks(marks: &[u8; 32768], p: usize, out: &mut [u8; 65536], place: usize) -> usize
+fn put_marks(marks: &[u8; 32768], p: usize, out: &mut [u8; 65536], offset: usize) -> usize
     requires { ⌜ p < 64 ⌝ }
 {
     let row = 512 * p;
-    let mut next = place;
+    let mut next = offset;
     let mut e: usize = 0;
     while e < 512 {
         let value = marks[row + e];
@@ -76,9 +76,9 @@ fn put_processes<'a>(
     opened: &'a [u8; 64],
     marks: &'a [u8; 32768],
     out: &mut [u8; 65536],
-    place: usize,
+    offset: usize,
 ) -> usize {
-    let mut next = place;
+    let mut next = offset;
     let mut p: usize = 0;
     while p < 64 {
         let behind_process = put_process_if(out, next, p as u32, positions[p], opened[p]);
@@ -96,9 +96,9 @@ pub fn put_state<'a>(
     counters: &'a [u32; 64],
     turn: u32,
     out: &mut [u8; 65536],
-    place: usize,
+    offset: usize,
 ) -> usize {
-    let behind_turn = put_line(out, place, b"turn ", turn);
+    let behind_turn = put_line(out, offset, b"turn ", turn);
     let behind_counters = put_counters(counters, out, behind_turn);
     put_processes(positions, opened, marks, out, behind_counters)
 }

@@ -5,7 +5,7 @@ use Prim.Native.Nat.{ℕ, _+_, _*_}
 use Rattle.plan.specs.declared.Plan.{Plan}
 use Rattle.judge.specs.declared.Answer.{Answer}
 use Rattle.judge.specs.declared.Answer.the-variants.{Accepted, Refused}
-use Rattle.reader.specs.declared.Reading.{Reading}
+use Rattle.reader.specs.declared.ReadPlan.{ReadPlan}
 use Rattle.machine.specs.declared.State.{State}
 use Rattle.machine.specs.declared.Began.{Began}
 use Rattle.machine.specs.declared.Reply.{Reply}
@@ -34,8 +34,8 @@ numbers-of (Refused number place) = record { number = number; place = place; lea
 unfoldable pub beside-plan : Verdict → Plan → PlanRead
 beside-plan v pl = record { number = v .number; place = v .place; least = v .least; plan = pl }
 
-unfoldable pub numbers-of-reading : Reading → PlanRead
-numbers-of-reading r = beside-plan (numbers-of (r .answer)) (r .plan)
+unfoldable pub numbers-of-read : ReadPlan → PlanRead
+numbers-of-read r = beside-plan (numbers-of (r .answer)) (r .plan)
 
 -- "Beginning a run is refused with 25 where the plan is out of shape, with an all-zero state beside it": 0 where it is not
 unfoldable pub numbers-of-begin : Began → Begun

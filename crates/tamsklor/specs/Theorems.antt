@@ -8,14 +8,14 @@ use native.Mathlib.Omega.{arith}
 use Rattle.plan.specs.declared.Plan.{Plan}
 use Rattle.judge.specs.declared.Answer.{Answer}
 use Rattle.judge.specs.declared.Answer.the-variants as answer
-use Rattle.reader.specs.Tests.{verdict, plan-beside, no-plan, reading-of}
+use Rattle.reader.specs.Tests.{verdict, plan-beside, no-plan, read-of}
 use Rattle.machine.specs.declared.State.{State}
 use Rattle.machine.specs.declared.Reply.{Reply}
 use Rattle.machine.specs.declared.Reply.the-variants.{Opened, Found, Wait, Fired, Refused}
 use Rattle.machine.specs.Calls.{step-call}
 use Rattle.machine.specs.Runs.{turn, IsRefused}
 use Rattle.machine.specs.Theorems.{refused-unchanged}
-use Rattle.tamsklor.specs.Numbers.{numbers-of, beside-plan, numbers-of-reading, numbers-of-reply}
+use Rattle.tamsklor.specs.Numbers.{numbers-of, beside-plan, numbers-of-read, numbers-of-reply}
 
 -- kind 0 is a refusal
 kind-0 : (r : Reply) → numbers-of-reply r .kind ≡ 0 → IsRefused r
@@ -38,6 +38,6 @@ nothing-beside (answer.Accepted q modulus least) pl n = absurd (n refl)
 nothing-beside (answer.Refused number place) pl n = refl
 
 -- "all 0 after a refusal": after a number that is not 0 nothing of the plan is handed out
-pub nothing-handed-out : (s : List ℕ) → numbers-of-reading (reading-of s) .number ≢ 0 → numbers-of-reading (reading-of s) .plan ≡ no-plan
-unfolding numbers-of-reading beside-plan reading-of
+pub nothing-handed-out : (s : List ℕ) → numbers-of-read (read-of s) .number ≢ 0 → numbers-of-read (read-of s) .plan ≡ no-plan
+unfolding numbers-of-read beside-plan read-of
 nothing-handed-out s n = nothing-beside (verdict s) _ n

@@ -5,7 +5,7 @@ use mathlib.Core.List.{List}
 use Prim.Native.Nat.{ℕ}
 use Rattle.plan.specs.declared.Plan.{Plan}
 use Rattle.plan.specs.Unique.{one-answer}
-use Rattle.reader.specs.Tests.{verdict, reading-of}
+use Rattle.reader.specs.Tests.{verdict, read-of}
 use Rattle.machine.specs.declared.State.{State}
 use Rattle.machine.specs.Calls.{begin-run, reading-call}
 use Rattle.tamsklor.specs.declared.Verdict.{Verdict}
@@ -14,12 +14,12 @@ use Rattle.tamsklor.specs.declared.Begun.{Begun}
 use Rattle.tamsklor.specs.declared.CallAnswer.{CallAnswer}
 use Rattle.tamsklor.specs.declared.Stepped.{Stepped}
 use Rattle.tamsklor.specs.declared.TokenAnswer.{TokenAnswer}
-use Rattle.tamsklor.specs.Numbers.{numbers-of, numbers-of-reading, numbers-of-begin, numbers-of-level, version, StepPromise}
+use Rattle.tamsklor.specs.Numbers.{numbers-of, numbers-of-read, numbers-of-begin, numbers-of-level, version, StepPromise}
 
 pub check-unique : (s : List ℕ) {r r′ : Verdict} → r ≡ numbers-of (verdict s) → r′ ≡ numbers-of (verdict s) → r ≡ r′
 check-unique s = one-answer
 
-pub read-unique : (s : List ℕ) {r r′ : PlanRead} → r ≡ numbers-of-reading (reading-of s) → r′ ≡ numbers-of-reading (reading-of s) → r ≡ r′
+pub read-unique : (s : List ℕ) {r r′ : PlanRead} → r ≡ numbers-of-read (read-of s) → r′ ≡ numbers-of-read (read-of s) → r ≡ r′
 read-unique s = one-answer
 
 pub begin-unique : (pl : Plan) {r r′ : Begun} → r ≡ numbers-of-begin (begin-run pl) → r′ ≡ numbers-of-begin (begin-run pl) → r ≡ r′

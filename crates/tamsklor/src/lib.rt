@@ -1,8 +1,8 @@
 // What the recorder's host in C calls: the plan check, the plan of an image, and a run by single calls. Numbers and arrays only.
 ghost use mathlib.Core.Path.{_≡_};
-ghost use Rattle.reader.specs.Tests.{verdict, reading-of};
+ghost use Rattle.reader.specs.Tests.{verdict, read-of};
 ghost use Rattle.machine.specs.Calls.{begin-run, step-call, reading-call};
-ghost use Rattle.tamsklor.specs.Numbers.{outcome, numbers-of, numbers-of-reading, numbers-of-begin, numbers-of-reply, numbers-of-level, version};
+ghost use Rattle.tamsklor.specs.Numbers.{outcome, numbers-of, numbers-of-read, numbers-of-begin, numbers-of-reply, numbers-of-level, version};
 use judge::Answer;
 use machine::Level;
 use machine::Reply;
@@ -164,7 +164,7 @@ pub extern "C" fn tamsklor_plan_check(image: &[u8]) -> Verdict
 // The plan of an image beside the plan check's numbers; all 0 after a refusal.
 #[no_mangle]
 pub extern "C" fn tamsklor_plan_read(image: &[u8]) -> PlanRead
-    ensures { λ r. ⌜ r ≡ numbers-of-reading (reading-of (now (image .entry))) ⌝ }
+    ensures { λ r. ⌜ r ≡ numbers-of-read (read-of (now (image .entry))) ⌝ }
 {
     let reading = reader::read(image);
     let answer = reading.answer;

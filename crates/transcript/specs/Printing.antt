@@ -12,9 +12,9 @@ use Rattle.plan.specs.declared.Plan.{Plan}
 use Rattle.plan.specs.Faults.{InShape}
 use Rattle.judge.specs.declared.Answer.{Answer}
 use Rattle.judge.specs.declared.Answer.the-variants.{Accepted, Refused}
-use Rattle.reader.specs.declared.Reading.{Reading}
+use Rattle.reader.specs.declared.ReadPlan.{ReadPlan}
 use Rattle.bytes.specs.LittleEndian.{four-bytes}
-use Rattle.reader.specs.Tests.{reading-of}
+use Rattle.reader.specs.Tests.{read-of}
 use Rattle.reader.specs.Theorems.{accepted-sound, all-of-the-plan, answer-is}
 use Rattle.reader.specs.Tests.{IsAccepted}
 use Rattle.machine.specs.States.{fresh}
@@ -50,10 +50,10 @@ behind-few input end h = omega (arith, ap length (behind input end), length-drop
 
 -- ---- the text
 -- an accepted image's plan is in shape
-pub accepted-shape : (s : List ℕ) (reading : Reading) (q modulus least : ℕ) → reading ≡ reading-of s
+pub accepted-shape : (s : List ℕ) (reading : ReadPlan) (q modulus least : ℕ) → reading ≡ read-of s
     → reading .answer ≡ Accepted q modulus least → InShape (reading .plan)
 accepted-shape s reading q modulus least e a =
-    let accepted : IsAccepted s = (q, modulus, least, sym (answer-is s) ∙ ap (λ (r : Reading). r .answer) (sym e) ∙ a) in
+    let accepted : IsAccepted s = (q, modulus, least, sym (answer-is s) ∙ ap (λ (r : ReadPlan). r .answer) (sym e) ∙ a) in
     rw (e, all-of-the-plan s accepted) (accepted-sound s accepted .shape)
 
 by-answer : (answer : Answer) (pl : Plan) (bytes : List ℕ) (q modulus least : ℕ) → answer ≡ Accepted q modulus least
@@ -65,7 +65,7 @@ by-refusal : (answer : Answer) (pl : Plan) (bytes : List ℕ) (number place : �
 unfolding text-by refusal-text
 by-refusal answer pl bytes number place a = rw a
 
-module _ (input : List ℕ) (end : ℕ) (reading : Reading) (here : end ≡ image-length input) (read : reading ≡ reading-of (take end input)) where
+module _ (input : List ℕ) (end : ℕ) (reading : ReadPlan) (here : end ≡ image-length input) (read : reading ≡ read-of (take end input)) where
   run-is : text-by (reading .answer) (reading .plan) (drop end input) ≡ run-text input
   unfolding run-text text-read
   run-is = rw (read, here)

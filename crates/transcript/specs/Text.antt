@@ -8,9 +8,9 @@ use Rattle.loops.specs.Choice.{if}
 use Rattle.plan.specs.declared.Plan.{Plan}
 use Rattle.judge.specs.declared.Answer.{Answer}
 use Rattle.judge.specs.declared.Answer.the-variants as answers
-use Rattle.reader.specs.declared.Reading.{Reading}
+use Rattle.reader.specs.declared.ReadPlan.{ReadPlan}
 use Rattle.bytes.specs.LittleEndian.{four-bytes}
-use Rattle.reader.specs.Tests.{reading-of}
+use Rattle.reader.specs.Tests.{read-of}
 use Rattle.machine.specs.declared.State.{State}
 use Rattle.machine.specs.declared.Reply.{Reply}
 use Rattle.machine.specs.States.{fresh}
@@ -58,11 +58,11 @@ unfoldable pub text-by : Answer → Plan → List ℕ → List ℕ
 text-by (answers.Accepted q modulus least) pl bytes = plan-line q modulus least ++ calls-text pl fresh 0 bytes
 text-by (answers.Refused number place) pl bytes = refused-line number place
 
-unfoldable pub text-read : Reading → List ℕ → List ℕ
+unfoldable pub text-read : ReadPlan → List ℕ → List ℕ
 text-read reading bytes = text-by (reading .answer) (reading .plan) bytes
 
 unfoldable pub run-text : List ℕ → List ℕ
-run-text input = text-read (reading-of (take (image-length input) input)) (drop (image-length input) input)
+run-text input = text-read (read-of (take (image-length input) input)) (drop (image-length input) input)
 
 -- "`planrun` reads at most 65,536 bytes of standard input; with more it prints `too long` only."
 unfoldable pub text-of : List ℕ → List ℕ

@@ -44,14 +44,14 @@ fn image_length(input: &[u8]) -> usize
 }
 
 // One to three bytes left over print `cut`.
-fn put_left_over(out: &mut [u8], place: usize, left: usize) -> usize
-    requires { ⌜ place < 1000000 ⌝ }
-    ensures { λ r. ⌜ Put (now (out .entry)) place (cut-if left) (now (out .exit)) r × (r ≤ place + 4) ⌝ }
+fn put_left_over(out: &mut [u8], offset: usize, left: usize) -> usize
+    requires { ⌜ offset < 1000000 ⌝ }
+    ensures { λ r. ⌜ Put (now (out .entry)) offset (cut-if left) (now (out .exit)) r × (r ≤ offset + 4) ⌝ }
 {
     if left == 0 {
-        return place;
+        return offset;
     }
-    bytes::text::put_word(out, place, b"cut\n")
+    bytes::text::put_word(out, offset, b"cut\n")
 }
 
 // The calls of four bytes: code, process, edge (two bytes). The run begins from an accepted plan, fresh; each call keeps the shape, so none is tested.
@@ -71,17 +71,17 @@ fn put_calls<'a>(
     tokens: &'a [u16; 512],
     calls: &[u8],
     out: &mut [u8],
-    place: usize,
+    offset: usize,
 ) -> usize
-    requires { ⌜ InShape (plan-with nodes processes edges counts modulus q (now lengths) (now order) (now counter) (now increment) (now source) (now destination) (now tokens)) × (length (now calls) ≤ 65536) × (place ≤ 38) ⌝ }
-    ensures { λ r. ⌜ Put (now (out .entry)) place (calls-text (plan-with nodes processes edges counts modulus q (now (lengths .entry)) (now (order .entry)) (now (counter .entry)) (now (increment .entry)) (now (source .entry)) (now (destination .entry)) (now (tokens .entry))) fresh 0 (now (calls .entry))) (now (out .exit)) r × (r ≤ 409642) ⌝ }
+    requires { ⌜ InShape (plan-with nodes processes edges counts modulus q (now lengths) (now order) (now counter) (now increment) (now source) (now destination) (now tokens)) × (length (now calls) ≤ 65536) × (offset ≤ 38) ⌝ }
+    ensures { λ r. ⌜ Put (now (out .entry)) offset (calls-text (plan-with nodes processes edges counts modulus q (now (lengths .entry)) (now (order .entry)) (now (counter .entry)) (now (increment .entry)) (now (source .entry)) (now (destination .entry)) (now (tokens .entry))) fresh 0 (now (calls .entry))) (now (out .exit)) r × (r ≤ 409642) ⌝ }
 {
     let mut positions = [0u16; 64];
     let mut opened = [0u8; 64];
     let mut marks = [0u8; 32768];
     let mut counters = [0u32; 64];
     let mut turn: u32 = 0;
-    let mut next = place;
+    let mut next = offset;
     let mut index: u32 = 0;
     let mut i: usize = 0;
     while i + 4 <= calls.len() {

@@ -36,7 +36,7 @@ is-10 c =
 
 returns : tie.Need-returns
 unfolding from-9
-returns c = refused-here _ _ _ _ _ _ _ (c .refused .ensures) (c .before .before .first-bad-position .ensures) (c .before .if1 .taken)
+returns c = refused-here _ _ _ _ _ _ _ (c .refused .ensures) (c .before .before .first-bad-order-position .ensures) (c .before .if1 .taken)
 
 homes-requires : tie.Need-homes-requires
 homes-requires c κs = let s = c .before .before in (s .pre .counts .nodes-most, s .pre .counts .processes-most, order-once (lent s) (s .pre))
@@ -46,7 +46,7 @@ unfolding from-9
 returns-2 c =
     let f = c .before .before in
     let p = past-9 f in
-    passed-here _ _ _ _ _ _ _ (p .before .first-bad-position .ensures) (p .if1 .left)
+    passed-here _ _ _ _ _ _ _ (p .before .first-bad-order-position .ensures) (p .if1 .left)
     (refused-here _ _ _ _ _ _ _ (c .refused2 .ensures) (is-10 f) (c .before .if2 .taken))
 
 crossing-row-requires : tie.Need-crossing-row-requires
@@ -70,7 +70,7 @@ returns-3 c =
     let f = e .before in
     let p = past-9 f in
     let pl = lent (start f) in
-    passed-here _ _ _ _ _ _ _ (p .before .first-bad-position .ensures) (p .if1 .left)
+    passed-here _ _ _ _ _ _ _ (p .before .first-bad-order-position .ensures) (p .if1 .left)
     (passed-here _ _ _ _ _ _ _ (is-10 f) (e .if2 .left)
     (c .from-11 .ensures
     ∙ ap (λ x. from-11-in x (sum-table pl) (pl .source) (pl .destination) (pl .counter) (pl .increment) (pl .nodes) (pl .edges) (pl .counters) (pl .modulus) (counter-sum pl 0)) (crossed r)))

@@ -17,7 +17,7 @@ lengths-sum-requires c κs = omega (arith, process-at-lt _ _ _ (c .before .pre .
 
 returns : tie.Need-returns
 unfolding is-last
-returns c = rw (c .lengths-sum .ensures, add-one (c .before .before .args .i), add-one (c .before .process-of-position .result), c .before .process-of-position .ensures)
+returns c = rw (c .lengths-sum .ensures, add-one (c .before .before .args .i), add-one (c .before .process-of-order-position .result), c .before .process-of-order-position .ensures)
 
 pub is-last-at-spec : {M : Type 1} → statement M
 is-last-at-spec =

@@ -5,10 +5,10 @@ use Rattle.statecheck.proofs.answer_all.Statement.{statement}
 use Rattle.statecheck.proofs.answer_all.Tie as tie
 
 abbrev Inv-loop : tie.InvT-loop
-Inv-loop out₀ place₀ number₀ out place number = Unit {0}
+Inv-loop out₀ offset₀ number₀ out offset number = Unit {0}
 
 abbrev μ-loop : tie.MeasureT-loop
-μ-loop out₀ place₀ number₀ out place number = 4294967295 - number
+μ-loop out₀ offset₀ number₀ out offset number = 4294967295 - number
 
 returns : tie.Need-returns Inv-loop μ-loop
 returns c = search needs

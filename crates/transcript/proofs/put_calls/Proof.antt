@@ -11,13 +11,13 @@ use Rattle.transcript.proofs.put_calls.Statement.{statement}
 use Rattle.transcript.proofs.put_calls.Tie as tie
 
 abbrev Inv-loop : tie.InvT-loop
-Inv-loop nodes processes edges counts modulus q lengths order counter increment source destination tokens calls out₀ place positions₀ opened₀ marks₀ counters₀ turn₀ next₀ index₀ i₀ out positions opened marks counters turn next index i =
-    Running (plan-with nodes processes edges counts modulus q lengths order counter increment source destination tokens) calls out₀ place index i
+Inv-loop nodes processes edges counts modulus q lengths order counter increment source destination tokens calls out₀ offset positions₀ opened₀ marks₀ counters₀ turn₀ next₀ index₀ i₀ out positions opened marks counters turn next index i =
+    Running (plan-with nodes processes edges counts modulus q lengths order counter increment source destination tokens) calls out₀ offset index i
     (state-with positions opened marks counters turn) out next
     × (length out ≡ length out₀)
 
 abbrev μ-loop : tie.MeasureT-loop
-μ-loop nodes processes edges counts modulus q lengths order counter increment source destination tokens calls out₀ place positions₀ opened₀ marks₀ counters₀ turn₀ next₀ index₀ i₀ out positions opened marks counters turn next index i = length calls - i
+μ-loop nodes processes edges counts modulus q lengths order counter increment source destination tokens calls out₀ offset positions₀ opened₀ marks₀ counters₀ turn₀ next₀ index₀ i₀ out positions opened marks counters turn next index i = length calls - i
 
 loop-holds : tie.Need-loop-holds Inv-loop μ-loop
 unfolding fresh

@@ -8,10 +8,10 @@ use Rattle.bytes.proofs.text.put_word.Statement.{statement}
 use Rattle.bytes.proofs.text.put_word.Tie as tie
 
 abbrev Inv-loop : tie.InvT-loop
-Inv-loop out₀ place word next₀ i₀ out next i = (i ≤ length word) × (length out ≡ length out₀) × (next ≡ place + i) × Put out₀ place (take i word) out next
+Inv-loop out₀ offset word next₀ i₀ out next i = (i ≤ length word) × (length out ≡ length out₀) × (next ≡ offset + i) × Put out₀ offset (take i word) out next
 
 abbrev μ-loop : tie.MeasureT-loop
-μ-loop out₀ place word next₀ i₀ out next i = length word - i
+μ-loop out₀ offset word next₀ i₀ out next i = length word - i
 
 returns : tie.Need-returns Inv-loop μ-loop
 returns c = search (needs, put-none, put-next, put-over)

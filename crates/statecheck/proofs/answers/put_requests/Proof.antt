@@ -5,10 +5,10 @@ use Rattle.statecheck.proofs.answers.put_requests.Statement.{statement}
 use Rattle.statecheck.proofs.answers.put_requests.Tie as tie
 
 abbrev Inv-loop : tie.InvT-loop
-Inv-loop plan «record» length out₀ place state₀ next₀ at₀ out state next at = at < 300000
+Inv-loop plan «record» length out₀ offset state₀ next₀ at₀ out state next at = at < 300000
 
 abbrev μ-loop : tie.MeasureT-loop
-μ-loop plan «record» length out₀ place state₀ next₀ at₀ out state next at = 300000 - at
+μ-loop plan «record» length out₀ offset state₀ next₀ at₀ out state next at = 300000 - at
 
 returns : tie.Need-returns Inv-loop μ-loop
 returns c = search needs

@@ -7,10 +7,10 @@ use Rattle.statecheck.proofs.record.table_of_512.Statement.{statement}
 use Rattle.statecheck.proofs.record.table_of_512.Tie as tie
 
 abbrev Inv-loop : tie.InvT-loop
-Inv-loop «record» from table₀ place₀ i₀ table place i = (i ≤ 512) × (place ≤ from + 6 * i) × (length table ≡ 512)
+Inv-loop «record» from table₀ offset₀ i₀ table offset i = (i ≤ 512) × (offset ≤ from + 6 * i) × (length table ≡ 512)
 
 abbrev μ-loop : tie.MeasureT-loop
-μ-loop «record» from table₀ place₀ i₀ table place i = 512 - i
+μ-loop «record» from table₀ offset₀ i₀ table offset i = 512 - i
 
 returns : tie.Need-returns Inv-loop μ-loop
 returns c = search needs

@@ -7,10 +7,10 @@ use Rattle.statecheck.proofs.record.table_of_64.Statement.{statement}
 use Rattle.statecheck.proofs.record.table_of_64.Tie as tie
 
 abbrev Inv-loop : tie.InvT-loop
-Inv-loop «record» from apart table₀ place₀ i₀ table place i = (i ≤ 64) × (place ≤ from + 6 * i) × (length table ≡ 64)
+Inv-loop «record» from apart table₀ offset₀ i₀ table offset i = (i ≤ 64) × (offset ≤ from + 6 * i) × (length table ≡ 64)
 
 abbrev μ-loop : tie.MeasureT-loop
-μ-loop «record» from apart table₀ place₀ i₀ table place i = 64 - i
+μ-loop «record» from apart table₀ offset₀ i₀ table offset i = 64 - i
 
 returns : tie.Need-returns Inv-loop μ-loop
 returns c = search needs

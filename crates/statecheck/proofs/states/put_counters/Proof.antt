@@ -5,10 +5,10 @@ use Rattle.statecheck.proofs.states.put_counters.Statement.{statement}
 use Rattle.statecheck.proofs.states.put_counters.Tie as tie
 
 abbrev Inv-loop : tie.InvT-loop
-Inv-loop counters out₀ place next₀ c₀ out next c = c ≤ 64
+Inv-loop counters out₀ offset next₀ c₀ out next c = c ≤ 64
 
 abbrev μ-loop : tie.MeasureT-loop
-μ-loop counters out₀ place next₀ c₀ out next c = 64 - c
+μ-loop counters out₀ offset next₀ c₀ out next c = 64 - c
 
 returns : tie.Need-returns Inv-loop μ-loop
 returns c = search needs

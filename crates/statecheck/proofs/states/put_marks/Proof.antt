@@ -6,10 +6,10 @@ use Rattle.statecheck.proofs.states.put_marks.Statement.{statement}
 use Rattle.statecheck.proofs.states.put_marks.Tie as tie
 
 abbrev Inv-loop : tie.InvT-loop
-Inv-loop marks p out₀ place row next₀ e₀ out next e = (e ≤ 512) × (row ≡ 512 * p)
+Inv-loop marks p out₀ offset row next₀ e₀ out next e = (e ≤ 512) × (row ≡ 512 * p)
 
 abbrev μ-loop : tie.MeasureT-loop
-μ-loop marks p out₀ place row next₀ e₀ out next e = 512 - e
+μ-loop marks p out₀ offset row next₀ e₀ out next e = 512 - e
 
 returns : tie.Need-returns Inv-loop μ-loop
 returns c = search needs

@@ -5,10 +5,10 @@ use Rattle.statecheck.proofs.states.put_processes.Statement.{statement}
 use Rattle.statecheck.proofs.states.put_processes.Tie as tie
 
 abbrev Inv-loop : tie.InvT-loop
-Inv-loop positions opened marks out₀ place next₀ p₀ out next p = p ≤ 64
+Inv-loop positions opened marks out₀ offset next₀ p₀ out next p = p ≤ 64
 
 abbrev μ-loop : tie.MeasureT-loop
-μ-loop positions opened marks out₀ place next₀ p₀ out next p = 64 - p
+μ-loop positions opened marks out₀ offset next₀ p₀ out next p = 64 - p
 
 returns : tie.Need-returns Inv-loop μ-loop
 returns c = search needs

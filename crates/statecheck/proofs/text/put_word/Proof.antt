@@ -6,10 +6,10 @@ use Rattle.statecheck.proofs.text.put_word.Statement.{statement}
 use Rattle.statecheck.proofs.text.put_word.Tie as tie
 
 abbrev Inv-loop : tie.InvT-loop
-Inv-loop out₀ place word next₀ i₀ out next i = i ≤ length word
+Inv-loop out₀ offset word next₀ i₀ out next i = i ≤ length word
 
 abbrev μ-loop : tie.MeasureT-loop
-μ-loop out₀ place word next₀ i₀ out next i = length word - i
+μ-loop out₀ offset word next₀ i₀ out next i = length word - i
 
 returns : tie.Need-returns Inv-loop μ-loop
 returns c = search needs

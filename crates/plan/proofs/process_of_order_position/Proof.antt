@@ -1,4 +1,4 @@
--- `plan::process_of_position` meets its contract. Assumes nothing.
+-- `plan::process_of_order_position` meets its contract. Assumes nothing.
 use borrow.Author.Needs.{needs}
 use Prim.Native.Nat.{_-_, _*_, _≤_}
 use Rattle.loops.specs.Choice.{at}
@@ -7,8 +7,8 @@ use Rattle.loops.specs.Sum.{Sum, sums}
 use Rattle.plan.specs.Tests.{ends-past, process-at}
 use Rattle.plan.specs.Running.{ends-here, ends-before}
 use mathlib.Core.Path.{refl}
-use Rattle.plan.proofs.process_of_position.Statement.{statement}
-use Rattle.plan.proofs.process_of_position.Tie as tie
+use Rattle.plan.proofs.process_of_order_position.Statement.{statement}
+use Rattle.plan.proofs.process_of_order_position.Tie as tie
 
 abbrev Inv-loop : tie.InvT-loop
 Inv-loop lengths processes i end₀ p₀ end p = First (ends-past lengths i) processes p × Sum (at lengths) processes p end × (end ≤ 65535 * p)
@@ -32,8 +32,8 @@ returns-2 : tie.Need-returns-2 Inv-loop μ-loop
 unfolding process-at
 returns-2 c = search (needs, firsts, sums)
 
-pub process-of-position-spec : {M : Type 1} → statement M
-process-of-position-spec =
+pub process-of-order-position-spec : {M : Type 1} → statement M
+process-of-order-position-spec =
     tie.close
     (tie.spec
     Inv-loop
