@@ -270,12 +270,12 @@ TamsklorTokenAnswer tamsklor_run_tokens(const TamsklorPlan *plan,
 
    tamsklor_version needs next to nothing. tests/host_threads.c makes every call
    on a stack of its THREAD size; docs/SPEED.md has what was measured. */
-#define TAMSKLOR_PLAN_CHECK_STACK 43008
-#define TAMSKLOR_PLAN_READ_STACK 43008
-#define TAMSKLOR_RUN_BEGIN_STACK 8192
-#define TAMSKLOR_RUN_STEP_STACK 401408
-#define TAMSKLOR_RUN_STEPPED_STACK 368640
-#define TAMSKLOR_RUN_TOKENS_STACK 167936
+#define TAMSKLOR_PLAN_CHECK_STACK 21504
+#define TAMSKLOR_PLAN_READ_STACK 21504
+#define TAMSKLOR_RUN_BEGIN_STACK 5120
+#define TAMSKLOR_RUN_STEP_STACK 245760
+#define TAMSKLOR_RUN_STEPPED_STACK 212992
+#define TAMSKLOR_RUN_TOKENS_STACK 40960
 
 #define TAMSKLOR_PLAN_CHECK_THREAD                                            \
     TAMSKLOR_THREAD_BYTES(TAMSKLOR_PLAN_CHECK_STACK, 12)
