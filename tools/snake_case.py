@@ -13,7 +13,7 @@ import re
 import sys
 
 WORD = r"[^\W\d][\w']*"
-DASHED = re.compile(r"(?<![\w'.◌+*-])(?:\w[\w']*)(?:-[\w'+*]+)+(?![\w'◌])", re.U)
+DASHED = re.compile(r"(?<![\w'◌+*-])(?:\w[\w']*)(?:-[\w'+*]+)+(?![\w'◌])", re.U)
 CRATES = sorted(os.path.basename(p.rstrip("/")) for p in glob.glob("crates/*/"))
 OWN_PATH = re.compile(r"^Rattle[.·](%s)([.·]|$)" % "|".join(CRATES))
 

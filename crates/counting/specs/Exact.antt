@@ -37,9 +37,9 @@ module _ {q n tokens now of_end of_source b_end b_source : ℕ} (edge : Counted_
       let B = rounded_up q b_source in
       let s : (q * tokens + B) % n ≡ q * (tokens + of_source) % n =
       ap (◌% n) (let e : q * tokens + B ≡ B + q * tokens = omega arith in e)
-      ∙ plus_congruent n B (q * of_source) (q * tokens) edge.source-rounded ∙ ap (◌% n) (omega arith) in
+      ∙ plus_congruent n B (q * of_source) (q * tokens) edge.source_rounded ∙ ap (◌% n) (omega arith) in
       Iff·trans (waits_is q n tokens b_end b_source)
-      (Iff·trans (minus_is n A B z (q * tokens)) (λ e. sym edge.end-rounded ∙ e ∙ s, λ e. edge.end-rounded ∙ e ∙ sym s))
+      (Iff·trans (minus_is n A B z (q * tokens)) (λ e. sym edge.end_rounded ∙ e ∙ s, λ e. edge.end_rounded ∙ e ∙ sym s))
 
   -- with any N the test waits where no token stands
   pub empty_waits : now ≡ 0 → finds q n tokens b_end b_source ≡ false
@@ -76,9 +76,9 @@ module _ {q n tokens now of_end of_source b_end b_source : ℕ} (edge : Counted_
         let gap : ℕ = now + (m - tokens) in
         let ahead : of_source + m ≡ of_end + gap = omega arith in
         let congruent : B % n ≡ (q * gap + A) % n =
-        edge.source-rounded ∙ sym (add-mod_right (q * of_source) n)
+        edge.source_rounded ∙ sym (add-mod_right (q * of_source) n)
         ∙ ap (◌% n) (let e : q * of_source + n ≡ q * of_end + q * gap = omega (arith, ap (q *◌) ahead) in e)
-        ∙ sym (plus_congruent n A (q * of_end) (q * gap) edge.end-rounded) ∙ ap (◌% n) (omega arith) in
+        ∙ sym (plus_congruent n A (q * of_end) (q * gap) edge.end_rounded) ∙ ap (◌% n) (omega arith) in
         let difference : minus_modulo n B A ≡ q * (gap % m) =
         (minus_is n B A z (q * gap)).1 congruent ∙ ap (q * gap %◌) d ∙ multiple_modulo q gap m h (omega arith) in
         ap (reading_sum q n tokens b_source b_end %◌) (div-eq_of_eq-mul_right h d) ∙ ap (λ x. (x / q + tokens) % m) difference

@@ -52,7 +52,7 @@ module _ {q n : ℕ} (x : Counted_node q n) (h : 0 < q) where
               arith,
               ap (q *◌) none,
               sum_step x.increment x.position x.seat (omega arith),
-              sum_step x.increment (suc x.seat) x.length x.seat-lt,
+              sum_step x.increment (suc x.seat) x.length x.seat_lt,
             )
       ]
 

@@ -84,7 +84,7 @@ fn next_case() -> Next {
         return Next::End;
     }
     Next::Case {
-        length: bytes::word_to_index(bytes::quad_at(&bytes, 0)),
+        length: numerals::word_to_index(numerals::quad_at(&bytes, 0)),
     }
 }
 

@@ -9,7 +9,7 @@ ghost use Rattle.routes.specs.Rows.{no_route};
 ghost use Rattle.routes.specs.Relaxing.{Low, EndsInRow};
 ghost use Rattle.cycles.specs.Lent.{loop_sum_in, entered, free_in, closes_free_in, on_free_cycle_in, no_way_back_in, not_above_in, asks_in, most_asked, Known, Small};
 
-use bytes::to_index;
+use numerals::to_index;
 use routes::NO_ROUTE;
 
 // An edge's tokens and those of a route.

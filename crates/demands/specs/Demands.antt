@@ -37,20 +37,20 @@ answered = reader.answered
 
 -- "A refused plan gives a number and a place, and nothing of the plan."
 pub nothing_of_the_plan : (s : List ℕ) (k p : ℕ) → verdict s ≡ Refused k p → (read_of s).plan ≡ no_plan
-nothing_of_the_plan = reader.nothing-of-the-plan
+nothing_of_the_plan = reader.nothing_of_the_plan
 
 -- "A refused call leaves the run's state unchanged, turn number included.": of any plan value and any state.
 pub refused_unchanged : (pl : Plan) (st : State) (c : Call) → IsRefused (turn pl st c).reply → (turn pl st c).state ≡ st
-refused_unchanged = machine.refused-unchanged
+refused_unchanged = machine.refused_unchanged
 
 -- ---- demand 2
 -- "A plan is accepted exactly when its layout and Lamport's conditions C0 to C4, as document 01 lists them, hold."
 pub accepted_exactly : (s : List ℕ) → IsAccepted s ↔ (Layout s × Upheld (plan_of s))
-accepted_exactly = reader.accepted-exactly
+accepted_exactly = reader.accepted_exactly
 
 -- 01: "The lowest number that applies is given; within it the lowest place."
 pub refused_first : (s : List ℕ) (k p : ℕ) → (verdict s ≡ Refused k p) ↔ FirstFault (image_order s) k p
-refused_first = reader.refused-first
+refused_first = reader.refused_first
 
 -- an accepted image, its plan, and a list of calls made from the state that `begin` gives for it
 module _ (s : List ℕ) (a : IsAccepted s) where
@@ -59,98 +59,98 @@ module _ (s : List ℕ) (a : IsAccepted s) where
 
   -- `read` gives that plan
   pub plan_read : (read_of s).plan ≡ plan
-  plan_read = reader.all-of-the-plan s a
+  plan_read = reader.all_of_the_plan s a
 
   -- and `begin` does not refuse it
   pub begun : begin_run plan ≡ record { number = 0; state = fresh }
-  begun = machine.begins plan (reader.accepted-sound s a).shape
+  begun = machine.begins plan (reader.accepted_sound s a).shape
 
   module _ (cs : List Call) where
     -- the nodes fired so far, in order, are a legal firing order of Lamport's marked graph from its starting tokens
     pub follows : Legal (graph_of plan) (graph_of plan).tokens (fired_after plan cs)
-    follows = follow.follows plan (reader.accepted-sound s a) cs
+    follows = follow.follows plan (reader.accepted_sound s a) cs
 
     -- positions, open flags, counters and marks stand for it: a process's position is its firings in that round; an open process's unmarked
     -- synchronising in-edge of its next node holds a token; marks lie only on synchronising in-edges of that node
     pub stands : Stands plan (state_after plan cs) (fired_after plan cs)
-    stands = follow.stands plan (reader.accepted-sound s a) cs
+    stands = follow.stands plan (reader.accepted_sound s a) cs
 
     -- each counter is its increments times firings, modulo N
     pub counters_are : (c : ℕ) → c < plan.counters
         → at (state_after plan cs).counters c ≡ sum (λ v. share plan.counter plan.increment c v * firings v (fired_after plan cs)) plan.nodes % plan.modulus
-    counters_are = follow.counters-are plan (reader.accepted-sound s a) cs
+    counters_are = follow.counters_are plan (reader.accepted_sound s a) cs
 
     -- every state reached is in shape
     pub shape_kept : StateInShape plan (state_after plan cs)
-    shape_kept = (follow.shape-kept plan (reader.accepted-sound s a).shape cs).0
+    shape_kept = (follow.shape_kept plan (reader.accepted_sound s a).shape cs).0
 
     -- "a look at an edge still to be seen finds it exactly when Lamport's marked graph, fired in the same order, has a token there"
     pub look_exact : (c : Call) → c.code ≡ 1 → c.process < plan.processes → c.edge < 512 → mark (state_after plan cs) c.process c.edge ≡ 1
         → LookExact (tokens_now plan cs c.edge) c.process (turn plan (state_after plan cs) c)
-    look_exact = follow.look-exact plan (reader.accepted-sound s a) cs
+    look_exact = follow.look_exact plan (reader.accepted_sound s a) cs
 
     -- "A fire succeeds exactly when the process is open with no edge left to see."
     pub fire_exact : (c : Call) → c.code ≡ 2
         → ((v : ℕ) × ((turn plan (state_after plan cs) c).reply ≡ Fired v))
         ↔ ((c.process < plan.processes) × (at (state_after plan cs).opened c.process ≡ 1) × (marks_left (state_after plan cs) c.process ≡ 0))
-    fire_exact = follow.fire-exact plan (reader.accepted-sound s a) cs
+    fire_exact = follow.fire_exact plan (reader.accepted_sound s a) cs
 
     -- and then its node is the process's next, and all its in-edges hold a token, process edges and chords included
     pub fires_fireable : (c : Call) → c.code ≡ 2 → (v : ℕ) → (turn plan (state_after plan cs) c).reply ≡ Fired v
         → FireMeans plan (state_after plan cs) (tokens_now plan cs) c.process v
-    fires_fireable = follow.fires-fireable plan (reader.accepted-sound s a) cs
+    fires_fireable = follow.fires_fireable plan (reader.accepted_sound s a) cs
 
     -- 01: "in a plan with a token on every cycle its token is there whenever its end node is next"
     pub chord : (e p : ℕ) → e < plan.edges → InProcess plan (at plan.source e) p → InProcess plan (at plan.destination e) p
         → at plan.destination e ≡ next_node plan (state_after plan cs) p → 0 < tokens_now plan cs e
-    chord = follow.chord plan (reader.accepted-sound s a) cs
+    chord = follow.chord plan (reader.accepted_sound s a) cs
 
     -- ---- demand 3
     -- "if a route leads from node m to node n, n has fired at most as often as m plus the starting tokens on the emptiest such route"
     pub lead : (m n d : ℕ) → Emptiest (graph_of plan) (graph_of plan).tokens m n d
         → firings n (fired_after plan cs) ≤ firings m (fired_after plan cs) + d
-    lead = follow.lead plan (reader.accepted-sound s a) cs
+    lead = follow.lead plan (reader.accepted_sound s a) cs
 
     -- "At every point some process, called alone, fires after at most one open, one look at each edge it has yet to see, and one fire."
     pub progress : (p : ℕ) × (p < plan.processes) × Fireable (graph_of plan) (tokens_now plan cs) (next_node plan (state_after plan cs) p)
         × ((es : List ℕ) × YetToSee plan (state_after plan cs) p es
         × Driven plan (state_after plan cs) p (next_node plan (state_after plan cs) p) es)
-    progress = follow.progress plan (reader.accepted-sound s a) cs
+    progress = follow.progress plan (reader.accepted_sound s a) cs
 
     -- and so in whichever order it looks at them
     pub any_order : (p : ℕ) → p < plan.processes → Fireable (graph_of plan) (tokens_now plan cs) (next_node plan (state_after plan cs) p)
         → (es : List ℕ) → YetToSee plan (state_after plan cs) p es → Driven plan (state_after plan cs) p (next_node plan (state_after plan cs) p) es
-    any_order = follow.driven plan (reader.accepted-sound s a) cs
+    any_order = follow.driven plan (reader.accepted_sound s a) cs
 
   -- the emptiest route is there wherever a route is, and is one number
   pub emptiest_there : (m n : ℕ) → m < plan.nodes → Linked (graph_of plan) m n → (d : ℕ) × Emptiest (graph_of plan) (graph_of plan).tokens m n d
-  emptiest_there = follow.emptiest-there plan (reader.accepted-sound s a)
+  emptiest_there = follow.emptiest_there plan (reader.accepted_sound s a)
 
   -- 01: "From a node to itself it is 0"
   pub emptiest_self : (n : ℕ) → n < plan.nodes → Emptiest (graph_of plan) (graph_of plan).tokens n n 0
-  emptiest_self n h = net.emptiest-self (graph_of plan) (graph_of plan).tokens n
+  emptiest_self n h = net.emptiest_self (graph_of plan) (graph_of plan).tokens n
 
   -- "and some sequence reaches that limit": of calls whose processes and edges are the plan's
   pub lead_reached : (m n d : ℕ) → n < plan.nodes → Emptiest (graph_of plan) (graph_of plan).tokens m n d
       → (cs : List Call) × AllInBounds plan cs × (firings n (fired_after plan cs) ≡ firings m (fired_after plan cs) + d)
-  lead_reached = follow.lead-reached plan (reader.accepted-sound s a)
+  lead_reached = follow.lead_reached plan (reader.accepted_sound s a)
 
   -- 01: "between them demand 3 sets no lead": where no route leads from m to n, n gets ahead as far as one likes
   pub unlinked_free : (m n : ℕ) → n < plan.nodes → (Linked (graph_of plan) m n → ⊥) → (k : ℕ)
       → (cs : List Call) × AllInBounds plan cs × (firings n (fired_after plan cs) ≡ k) × (firings m (fired_after plan cs) ≡ 0)
-  unlinked_free = follow.unlinked-free plan (reader.accepted-sound s a)
+  unlinked_free = follow.unlinked_free plan (reader.accepted_sound s a)
 
   -- such calls are calls that C can make: their numbers fit 32 bits
   pub bounds_fit : (cs : List Call) → AllInBounds plan cs → AllFit32 cs
-  bounds_fit = follow.bounds-fit plan (reader.accepted-sound s a)
+  bounds_fit = follow.bounds_fit plan (reader.accepted_sound s a)
 
   -- the machine loses no behaviour: every legal firing order is the firings of a list of such calls, none refused and none waiting
   pub reaches : (t : List ℕ) → Legal (graph_of plan) (graph_of plan).tokens t → Reached plan fresh t
-  reaches = follow.reaches plan (reader.accepted-sound s a)
+  reaches = follow.reaches plan (reader.accepted_sound s a)
 
   -- ---- the functions: whatever `read` and `begin` give, and any chain of states and answers in which each step meets what `step` ensures,
   -- is the run of its calls, of which all of the above speaks
   pub of_the_functions : (r : ReadPlan) → r ≡ read_of s → (b : Began) → b ≡ begin_run r.plan
       → (cs : List Call) {rs : List Reply} {end : State} → Chain r.plan b.state cs rs end
       → (b.number ≡ 0) × (rs ≡ answers_after plan cs) × (end ≡ state_after plan cs)
-  of_the_functions = functions.of-the-functions s a
+  of_the_functions = functions.of_the_functions s a

@@ -20,7 +20,7 @@ pub of_the_functions : (s : List ℕ) → IsAccepted s → (r : ReadPlan) → r 
     → (cs : List Call) {rs : List Reply} {end : State} → Chain r.plan b.state cs rs end
     → (b.number ≡ 0) × (rs ≡ answers_after (plan_of s) cs) × (end ≡ state_after (plan_of s) cs)
 of_the_functions s a r e b f cs {rs} {end} c =
-    let p : r.plan ≡ plan_of s = ap (λ x. x.plan) e ∙ reader.all-of-the-plan s a in
-    let q : b ≡ record { number = 0; state = fresh } = f ∙ ap begin_run p ∙ machine.begins (plan_of s) (reader.accepted-sound s a).shape in
+    let p : r.plan ≡ plan_of s = ap (λ x. x.plan) e ∙ reader.all_of_the_plan s a in
+    let q : b ≡ record { number = 0; state = fresh } = f ∙ ap begin_run p ∙ machine.begins (plan_of s) (reader.accepted_sound s a).shape in
     let k = follow.chain (plan_of s) cs (subst₂ (λ pl st. Chain pl st cs rs end) p (ap (λ x. x.state) q) c) in
     (ap (λ x. x.number) q, k.0, k.1)

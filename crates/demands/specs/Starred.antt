@@ -15,7 +15,7 @@ use Rattle.plan.specs.Value.{base, node_at, share, counter_sum, edge_sum}
 use Rattle.plan.specs.Tests.{stands_at, order_position, ends_past, process_at, home_of, home, seat, synchronises}
 use Rattle.judge.specs.declared.Answer.{Answer}
 use Rattle.judge.specs.declared.Answer.TheVariants.{Accepted, Refused}
-use Rattle.bytes.specs.LittleEndian.{two_bytes, four_bytes}
+use Rattle.numerals.specs.LittleEndian.{two_bytes, four_bytes}
 use Rattle.image.specs.Offsets.{order_start, node_start, edge_start}
 use Rattle.image.specs.Image.{entry, tables_of, plan_of}
 use Rattle.reader.specs.Plans.{as_two, as_four, all_as_two, image_of, like_P, edges_of_P, P, P_with_N_3, P_without_3_0, P_with_1_2_repeated, one_node, P_by_twos, P_with_0_0, ring, P_all_ones}

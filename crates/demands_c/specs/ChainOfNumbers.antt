@@ -129,7 +129,7 @@ look_told tokens p t x =
       left =
           elim (dec_lt 0 tokens) [
             | yes l ↦ let w = x.found.1 l in ap (λ r. (numbers_of_reply r).value) w.1 ∙ x.found_left w.0 w.1
-            | no l ↦ let w = x.waits.1 (omega arith) in ap (λ r. (numbers_of_reply r).value) w.1 ∙ x.wait-left w.0 w.1
+            | no l ↦ let w = x.waits.1 (omega arith) in ap (λ r. (numbers_of_reply r).value) w.1 ∙ x.wait_left w.0 w.1
           ];
     }
 
@@ -198,10 +198,10 @@ module _ (s : List ℕ) (r : PlanRead) (e : r ≡ numbers_of_read (read_of s)) w
   -- the plan is the image's
   pub read_plan : IsAccepted s → r.plan ≡ plan_of s
   unfolding numbers_of_read beside_plan
-  read_plan a = ap (λ x. x.plan) e ∙ reader.all-of-the-plan s a
+  read_plan a = ap (λ x. x.plan) e ∙ reader.all_of_the_plan s a
 
   pub read_sound : IsAccepted s → Sound r.plan
-  read_sound a = subst Sound (sym (read_plan a)) (reader.accepted-sound s a)
+  read_sound a = subst Sound (sym (read_plan a)) (reader.accepted_sound s a)
 
   -- the numbers are the plan check's
   pub read_checks : (v : Verdict) → v ≡ numbers_of (verdict s) → (r.number ≡ v.number) × (r.place ≡ v.place) × (r.least ≡ v.least)
@@ -237,15 +237,15 @@ module _ (pl : Plan) (sound : Sound pl) where
         → (cs : List Call) × AllInBounds pl cs × AllFit32 cs
         × ((ns : List CallAnswer) (end : State) → StepChain pl st cs ns end → firings n (nodes_fired ns) ≡ firings m (nodes_fired ns) + d)
     lead_reached_numbers m n d h a =
-        let t = follow.lead-reached pl sound m n d h a in
-        (t.0, t.1, follow.bounds-fit pl sound t.0 t.1, λ ns end c. subst (λ s. firings n s ≡ firings m s + d) (sym (nodes_from c)) t.2)
+        let t = follow.lead_reached pl sound m n d h a in
+        (t.0, t.1, follow.bounds_fit pl sound t.0 t.1, λ ns end c. subst (λ s. firings n s ≡ firings m s + d) (sym (nodes_from c)) t.2)
 
     pub unlinked_free_numbers : (m n : ℕ) → n < pl.nodes → (Linked (graph_of pl) m n → ⊥) → (k : ℕ)
         → (cs : List Call) × AllInBounds pl cs × AllFit32 cs
         × ((ns : List CallAnswer) (end : State) → StepChain pl st cs ns end → (firings n (nodes_fired ns) ≡ k) × (firings m (nodes_fired ns) ≡ 0))
     unlinked_free_numbers m n h none k =
-        let t = follow.unlinked-free pl sound m n h none k in
-        (t.0, t.1, follow.bounds-fit pl sound t.0 t.1, λ ns end c. (ap (firings n) (nodes_from c) ∙ t.2, ap (firings m) (nodes_from c) ∙ t.3))
+        let t = follow.unlinked_free pl sound m n h none k in
+        (t.0, t.1, follow.bounds_fit pl sound t.0 t.1, λ ns end c. (ap (firings n) (nodes_from c) ∙ t.2, ap (firings m) (nodes_from c) ∙ t.3))
 
     pub reaches_numbers : (t : List ℕ) → Legal (graph_of pl) (graph_of pl).tokens t
         → (cs : List Call) × AllInBounds pl cs × AllFit32 cs
@@ -254,7 +254,7 @@ module _ (pl : Plan) (sound : Sound pl) where
         let x = follow.reaches pl sound t l in (
           x.calls,
           x.bounds,
-          follow.bounds-fit pl sound x.calls x.bounds,
+          follow.bounds_fit pl sound x.calls x.bounds,
           λ ns end c. (
             nodes_from c ∙ x.fires,
             subst AllGoOn (sym (numbers_of_run (subst (λ y. StepChain pl y x.calls ns end) q c)).0) (all_go_on (replies pl fresh x.calls) x.goes),

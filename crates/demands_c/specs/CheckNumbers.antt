@@ -39,7 +39,7 @@ module _ (s : List ℕ) where
   -- that is where layout and conditions hold
   pub zero_exactly : (handed.number ≡ 0) ↔ (Layout s × Upheld (plan_of s))
   zero_exactly =
-      let x = reader.accepted-exactly s in
+      let x = reader.accepted_exactly s in
       (λ z. x.0 (zero_accepted.0 z), λ h. zero_accepted.1 (x.1 h))
 
   -- another number with its place exactly where they are the first fault
@@ -50,10 +50,10 @@ module _ (s : List ℕ) where
           | inl a ↦ absurd (some (sym h.0 ∙ ap (λ v. v.number) (accepted_is a)))
           | inr g ↦
               let v = refused_number s g.0 g.1 g.2 in
-              (reader.refused-first s k p).0
+              (reader.refused_first s k p).0
               (g.2 ∙ ap₂ Refused (sym (ap (λ v. v.number) v) ∙ h.0) (sym (ap (λ v. v.place) v) ∙ h.1))
         ],
-    λ f. let v = refused_number s k p ((reader.refused-first s k p).1 f) in (ap (λ v. v.number) v, ap (λ v. v.place) v),
+    λ f. let v = refused_number s k p ((reader.refused_first s k p).1 f) in (ap (λ v. v.number) v, ap (λ v. v.place) v),
   )
 
   -- there are 16 numbers
@@ -71,7 +71,7 @@ module _ (s : List ℕ) where
   pub least_there : handed.number ≡ 0 → LeastModulus (plan_of s) handed.least
   least_there z =
       let a = zero_accepted.0 z in
-      subst (LeastModulus (plan_of s)) (sym (ap (λ v. v.least) (accepted_is a))) (reader.least-is-least s a.0 a.1 a.2 a.3).0
+      subst (LeastModulus (plan_of s)) (sym (ap (λ v. v.least) (accepted_is a))) (reader.least_is_least s a.0 a.1 a.2 a.3).0
 
   -- after another it is 0
   pub least_none : handed.number ≢ 0 → handed.least ≡ 0

@@ -102,16 +102,16 @@ module _ (s : List ℕ) where
   -- Q of an accepted plan value is the Q that is answered
   q_beside : (q modulus least : ℕ) → verdict s ≡ answer.Accepted q modulus least → (plan_of s).q ≡ q
   q_beside q modulus least e =
-      (reader.accepted-sound s (q, modulus, least, e)).shape.q-is ∙ sym (reader.accepted-numbers s q modulus least e).0
+      (reader.accepted_sound s (q, modulus, least, e)).shape.q_is ∙ sym (reader.accepted_numbers s q modulus least e).0
 
   -- Q, N and the least modulus as C is handed them
   pub three_numbers : (q modulus least : ℕ) → verdict s ≡ answer.Accepted q modulus least
       → ((numbers_of_read (read_of s)).plan.q ≡ q) × ((numbers_of_read (read_of s)).plan.modulus ≡ modulus) × ((numbers_of_read (read_of s)).least ≡ least)
   unfolding numbers_of_read beside_plan read_of
   three_numbers q modulus least e =
-      let beside : plan_beside (verdict s) (plan_of s) ≡ plan_of s = reader.all-of-the-plan s (q, modulus, least, e) in (
+      let beside : plan_beside (verdict s) (plan_of s) ≡ plan_of s = reader.all_of_the_plan s (q, modulus, least, e) in (
         ap (λ pl. pl.q) beside ∙ q_beside q modulus least e,
-        ap (λ pl. pl.modulus) beside ∙ sym (reader.accepted-numbers s q modulus least e).1,
+        ap (λ pl. pl.modulus) beside ∙ sym (reader.accepted_numbers s q modulus least e).1,
         ap (λ v. v.least) (accepted_number q modulus least e),
       )
 

@@ -49,5 +49,5 @@ unfolding tables_answer tables_order NoneOf
 tables_passed pl counts e =
     let n3 = (passes_3 pl).0 (counts_pass pl counts) in
     let o = tables_decided Refused Passed refused_one not_passed pl [] Passed n3 (λ t. decides_final Refused Passed refused_one not_passed) in
-    let n = o.final-clean.0 e in
+    let n = o.final_clean.0 e in
     tabled pl n3 n.0 n.1.0 n.1.1.0 n.1.1.1.0

@@ -70,7 +70,7 @@ pub fn first_bad_order(order: &[u16; 64], nodes: usize) -> usize
     let mut seen: [u8; 64] = [0; 64];
     let mut i: usize = 0;
     while i < nodes {
-        let v = bytes::to_index(order[i]);
+        let v = numerals::to_index(order[i]);
         if nodes <= v {
             return i;
         }
@@ -93,7 +93,7 @@ fn bad_node_at<'a>(
     requires { v < 64 }
     ensures { result ≡ bad_node counter.now increment.now counters v }
 {
-    if counters <= bytes::to_index(counter[v]) {
+    if counters <= numerals::to_index(counter[v]) {
         true
     } else {
         255 < increment[v]
@@ -153,10 +153,10 @@ fn bad_edge_at<'a>(
     requires { e < 512 }
     ensures { result ≡ bad_edge source.now destination.now tokens.now nodes e }
 {
-    if nodes <= bytes::to_index(source[e]) {
+    if nodes <= numerals::to_index(source[e]) {
         return true;
     }
-    if nodes <= bytes::to_index(destination[e]) {
+    if nodes <= numerals::to_index(destination[e]) {
         return true;
     }
     if 1000 < tokens[e] {

@@ -46,7 +46,7 @@ module _ (G : Graph) (S : Seats G) (K : Counters G S) where
     pub held_by_rounds : (v : ℕ) → v < G.nodes
         → held (K.counter v) ≡ counter_value (K.total (K.counter v)) (shares G S K v) (i.rounds (S.home v)) (position (S.home v)) % K.n
     held_by_rounds v h =
-        i.counted (K.counter v) (K.counter-lt v h) ∙ ap (◌% K.n) (added_by_rounds G S K i.rounds position s i.standing v h)
+        i.counted (K.counter v) (K.counter_lt v h) ∙ ap (◌% K.n) (added_by_rounds G S K i.rounds position s i.standing v h)
 
     -- a node as `counting` sees it, with q for its counter's sum
     counted_node : (v : ℕ) → v < G.nodes → (q : ℕ) → K.total (K.counter v) ≡ q → Counted_node q K.n
@@ -60,8 +60,8 @@ module _ (G : Graph) (S : Seats G) (K : Counters G S) where
           counter = held (K.counter v);
           firings = firings v s;
           full = round_full G S K v h ∙ e;
-          position_lt = i.standing.fits (S.home v) (S.home-lt v h);
-          seat_lt = S.seat-lt v h;
+          position_lt = i.standing.fits (S.home v) (S.home_lt v h);
+          seat_lt = S.seat_lt v h;
           counted = subst (λ q. held (K.counter v) ≡ counter_value q (shares G S K v) (i.rounds (S.home v)) (position (S.home v)) % K.n) e (held_by_rounds v h);
           has_fired = i.standing.fired v h;
         }
@@ -73,11 +73,11 @@ module _ (G : Graph) (S : Seats G) (K : Counters G S) where
     look_exact e h d next =
         let n = G.destination e in
         let m = G.source e in
-        let n_lt = shaped.destination-lt e h in
-        let m_lt = shaped.source-lt e h in
+        let n_lt = shaped.destination_lt e h in
+        let m_lt = shaped.source_lt e h in
         let back = K.c4 e h d in
         let route = back.1.some in
-        look.look-exact (counted_node n n_lt (K.total (K.counter n)) refl) (counted_node m m_lt (K.total (K.counter n)) (K.same_total e h d))
+        look.look_exact (counted_node n n_lt (K.total (K.counter n)) refl) (counted_node m m_lt (K.total (K.counter n)) (K.same_total e h d))
         (K.c3 n n_lt).1 (K.divides n n_lt) next (subst (λ x. 0 < K.share (K.counter m) x) (sym (S.node_of m m_lt)) (K.c2 e h d)) (G.tokens e)
         (after G G.tokens s e) (tokens_now G G.tokens s i.legal e h) back.0
         (omega (arith, lead G G.tokens s i.legal route.0 n m route.1, route.2)) back.2
@@ -141,7 +141,7 @@ module _ (G : Graph) (S : Seats G) (K : Counters G S) where
           counted = λ c l.
               elim (ℕ_discrete c (K.counter v)) [
                 | yes y ↦
-                    ap held' y ∙ raised ∙ ap (λ x. (x + K.share (K.counter v) v) % K.n) (i.counted (K.counter v) (K.counter-lt v h))
+                    ap held' y ∙ raised ∙ ap (λ x. (x + K.share (K.counter v) v) % K.n) (i.counted (K.counter v) (K.counter_lt v h))
                     ∙ mod-add-mod (added G S K (K.counter v) s) K.n (K.share (K.counter v) v)
                     ∙ ap (◌% K.n) (sym (added_snoc G S K (K.counter v) v s h)) ∙ ap (λ x. added G S K x (s ++ (v ∷ [])) % K.n) (sym y)
                 | no y ↦

@@ -66,7 +66,7 @@ module _ (G : Graph) (S : Seats G) (K : Counters G S) where
 
   -- C3 in a process's round
   pub round_full : (v : ℕ) → v < G.nodes → sum (shares v) (S.length (S.home v)) ≡ K.total (K.counter v)
-  round_full v h = sym (sum_round G S (S.home v) (K.share (K.counter v)) (S.home-lt v h) (elsewhere v h)) ∙ (K.c3 v h).0
+  round_full v h = sym (sum_round G S (S.home v) (K.share (K.counter v)) (S.home_lt v h) (elsewhere v h)) ∙ (K.c3 v h).0
 
   -- 000's ct[c]: what was added to a counter, from its process's rounds and position
   pub added_by_rounds : (rounds position : ℕ → ℕ) (s : List ℕ) → Standing G S rounds position s → (v : ℕ) → v < G.nodes
@@ -74,7 +74,7 @@ module _ (G : Graph) (S : Seats G) (K : Counters G S) where
   unfolding added
   added_by_rounds rounds position s a v h =
       let p = S.home v in
-      let hp = S.home-lt v h in
+      let hp = S.home_lt v h in
       sum_round G S p (λ u. K.share (K.counter v) u * firings u s) hp (λ u l d. ap (◌* firings u s) (elsewhere v h u l d) ∙ omega arith)
       ∙ sum_same _ (λ j. shares v j * (rounds p + before j (position p))) (S.length p) (λ j l. ap (shares v j *◌) (at_seat j l))
       ∙ sum_rounds (shares v) (rounds p) (position p) (S.length p) (omega (arith, a.fits p hp))
@@ -83,6 +83,6 @@ module _ (G : Graph) (S : Seats G) (K : Counters G S) where
       at_seat : (j : ℕ) → j < S.length (S.home v) → firings (S.node (S.home v) j) s ≡ rounds (S.home v) + before j (position (S.home v))
       at_seat j l =
           let p = S.home v in
-          let hp = S.home-lt v h in
-          let home = S.home-node p hp j l in
-          omega (arith, a.fired (S.node p j) (S.node-lt p hp j l), S.seat-node p hp j l, ap rounds home, ap position home)
+          let hp = S.home_lt v h in
+          let home = S.home_node p hp j l in
+          omega (arith, a.fired (S.node p j) (S.node_lt p hp j l), S.seat_node p hp j l, ap rounds home, ap position home)

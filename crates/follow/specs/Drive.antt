@@ -113,8 +113,8 @@ module _ (pl : Plan) (sound : Sound pl) (s : List ℕ) (p : ℕ) (h : p < pl.pro
           answers = replies_first pl (to_look p e) (looks p es) st t found ∙ ap (Found (length es) ∷◌) r.1.answers;
           ends = last_first pl (to_look p e) (looks p es) st t found ∙ r.1.ends;
           follows = r.1.follows;
-          opened_stays = r.1.opened-stays;
-          positions_stay = r.1.positions-stay;
+          opened_stays = r.1.opened_stays;
+          positions_stay = r.1.positions_stay;
           none_left = r.1.none_left;
         },
       )
@@ -129,12 +129,12 @@ module _ (pl : Plan) (sound : Sound pl) (s : List ℕ) (p : ℕ) (h : p < pl.pro
       let w = r.1 in
       let fired : turn pl end (to_fire p) ≡ do_fire pl end p =
       fire_turn pl end (kept_fits pl sound.shape end w.follows.kept) (to_fire p) refl
-      ∙ fire_accepted pl end p h (λ z. o (ap (λ k. at k p) (sym w.opened-stays) ∙ z)) w.none_left in
+      ∙ fire_accepted pl end p h (λ z. o (ap (λ k. at k p) (sym w.opened_stays) ∙ z)) w.none_left in
       replies_append pl (looks p es) (to_fire p ∷ []) st
       ∙ ap₂ (λ rs st. rs ++ replies pl st (to_fire p ∷ [])) w.answers w.ends
       ∙ ap (look_answers es ++◌)
       (replies_first pl (to_fire p) [] end (do_fire pl end p) fired
-      ∙ ap₂ (λ v rs. Fired v ∷ rs) (ap (λ k. node_at pl p (at k p)) w.positions-stay) (replies_none pl _))
+      ∙ ap₂ (λ v rs. Fired v ∷ rs) (ap (λ k. node_at pl p (at k p)) w.positions_stay) (replies_none pl _))
 
   -- ---- the open
   open_answers : (st : State) → Follows pl sound st s → at st.opened p ≡ 0 → (es : List ℕ) → Listed (mark (opened_state pl st p) p) 512 es

@@ -110,7 +110,7 @@ module _ (pl : Plan) (sound : Sound pl) (st : State) (s : List ℕ) (f : Follows
   fireable_next v h may =
       let S = seats pl sound in
       let next = next_only (graph_of pl) S f.stands.rounds (at st.positions) s f.stands.legal f.stands.standing v h may in
-      (S.home v, S.home-lt v h, ap (node_at pl (S.home v)) (sym next) ∙ S.node_of v h)
+      (S.home v, S.home_lt v h, ap (node_at pl (S.home v)) (sym next) ∙ S.node_of v h)
 
   -- some process has a next node that may fire
   pub some_process : (p : ℕ) × (p < pl.processes) × Fireable (graph_of pl) (tokens_after pl s) (next_node pl st p)

@@ -37,9 +37,9 @@ module _ (pl : Plan) (sound : Sound pl) where
   unfolding edge_found counters graph_of graph_of_tables
   edge_found_is st e h =
       let same =
-      ap (λ q. finds q pl.modulus (at pl.tokens e) (b_of pl st (at pl.destination e)) (b_of pl st (at pl.source e))) (sym (sum_at_end pl sound e (at pl.destination e) ((shaped pl sound).destination-lt e h)))
-      ∙ ap₂ (finds (counter_sum pl (at pl.counter (at pl.destination e))) pl.modulus (at pl.tokens e)) (b_is st (at pl.destination e) ((shaped pl sound).destination-lt e h))
-      (b_is st (at pl.source e) ((shaped pl sound).source-lt e h)) in
+      ap (λ q. finds q pl.modulus (at pl.tokens e) (b_of pl st (at pl.destination e)) (b_of pl st (at pl.source e))) (sym (sum_at_end pl sound e (at pl.destination e) ((shaped pl sound).destination_lt e h)))
+      ∙ ap₂ (finds (counter_sum pl (at pl.counter (at pl.destination e))) pl.modulus (at pl.tokens e)) (b_is st (at pl.destination e) ((shaped pl sound).destination_lt e h))
+      (b_is st (at pl.source e) ((shaped pl sound).source_lt e h)) in
       (λ t. sym same ∙ t, λ t. same ∙ t)
 
   module _ (st : State) (s : List ℕ) (f : Follows pl sound st s) where

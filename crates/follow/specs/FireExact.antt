@@ -44,7 +44,7 @@ module _ (pl : Plan) (sound : Sound pl) (st : State) (s : List ℕ) (f : Follows
   pub fire_exactly : (c : Call) → c.code ≡ 2
       → ((v : ℕ) × ((turn pl st c).reply ≡ Fired v))
       ↔ ((c.process < pl.processes) × (at st.opened c.process ≡ 1) × (marks_left st c.process ≡ 0))
-  fire_exactly c z = exactly.fire-exactly pl sound.shape st in_shape.0 in_shape.1 c z
+  fire_exactly c z = exactly.fire_exactly pl sound.shape st in_shape.0 in_shape.1 c z
 
   -- an edge inside a process holds a token where its end is next
   pub chord_token : (e p : ℕ) → e < pl.edges → InProcess pl (at pl.source e) p → InProcess pl (at pl.destination e) p
@@ -52,5 +52,5 @@ module _ (pl : Plan) (sound : Sound pl) (st : State) (s : List ℕ) (f : Follows
   unfolding graph_of graph_of_tables
   chord_token e p h a b q =
       chord_holds (graph_of pl) (seats pl sound) f.stands.rounds (at st.positions) s f.stands.legal f.stands.standing (shaped pl sound)
-      (every_cycle_holds pl sound) e h (sits_home pl sound _ ((tables pl sound).source-lt e h) p a ∙ sym (sits_home pl sound _ ((tables pl sound).destination-lt e h) p b))
-      (end_next pl sound st s f p e b.1.process-lt q)
+      (every_cycle_holds pl sound) e h (sits_home pl sound _ ((tables pl sound).source_lt e h) p a ∙ sym (sits_home pl sound _ ((tables pl sound).destination_lt e h) p b))
+      (end_next pl sound st s f p e b.1.process_lt q)

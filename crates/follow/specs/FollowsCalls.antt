@@ -84,9 +84,9 @@ module _ (pl : Plan) (sound : Sound pl) (st : State) (s : List ℕ) (f : Follows
   unfolding marks_left
   fire_fireable p h o z =
       let t = next_node_is pl sound st f.kept p h in
-      may_fire (graph_of pl) (seats pl sound) (counters pl sound) (shaped pl sound) f.stands (every_cycle_holds pl sound) (next_node pl st p) t.node-lt
-      t.next (omega (arith, ap (at st.opened) t.home-is))
-      (λ e l. ap (λ r. mark st r e) t.home-is ∙ (sum_zero (mark st p) 512).0 z e (edge_lt e l).1)
+      may_fire (graph_of pl) (seats pl sound) (counters pl sound) (shaped pl sound) f.stands (every_cycle_holds pl sound) (next_node pl st p) t.node_lt
+      t.next (omega (arith, ap (at st.opened) t.home_is))
+      (λ e l. ap (λ r. mark st r e) t.home_is ∙ (sum_zero (mark st p) 512).0 z e (edge_lt e l).1)
 
   -- the process moves to the next position
   fire_moved : (p : ℕ) → p < pl.processes
@@ -96,7 +96,7 @@ module _ (pl : Plan) (sound : Sound pl) (st : State) (s : List ℕ) (f : Follows
   unfolding seats seats_of
   fire_moved p h =
       record {
-        others = λ r d. ((m.others r d).0, get_or-set_other st.positions p r position 0 (λ y. d (y ∙ sym t.home-is)));
+        others = λ r d. ((m.others r d).0, get_or-set_other st.positions p r position 0 (λ y. d (y ∙ sym t.home_is)));
         onward = λ l. (
           (m.onward l).0,
           here ∙ next_position_on _ _ (λ y. omega (arith, t.next, same_position, same_length)) ∙ ap suc (sym same_position),
@@ -124,15 +124,15 @@ module _ (pl : Plan) (sound : Sound pl) (st : State) (s : List ℕ) (f : Follows
       m = (moved (graph_of pl) S v f.stands.rounds (at st.positions)).2
 
       same_position : at st.positions (S.home v) ≡ at st.positions p
-      same_position = ap (at st.positions) t.home-is
+      same_position = ap (at st.positions) t.home_is
 
       same_length : at pl.lengths (S.home v) ≡ at pl.lengths p
-      same_length = ap (at pl.lengths) t.home-is
+      same_length = ap (at pl.lengths) t.home_is
 
       here : at (set st.positions p position) (S.home v) ≡ position
       here =
-          ap (at (set st.positions p position)) t.home-is
-          ∙ get_or-set_same st.positions p position 0 (omega (arith, f.kept.sized.positions-length, (tables pl sound).counts))
+          ap (at (set st.positions p position)) t.home_is
+          ∙ get_or-set_same st.positions p position 0 (omega (arith, f.kept.sized.positions_length, (tables pl sound).counts))
 
   -- the node's counter gets its increment
   fire_raised : (v : ℕ) → v < (graph_of pl).nodes
@@ -140,7 +140,7 @@ module _ (pl : Plan) (sound : Sound pl) (st : State) (s : List ℕ) (f : Follows
       ≡ (at st.counters ((counters pl sound).counter v) + (counters pl sound).share ((counters pl sound).counter v) v) % (counters pl sound).n
   unfolding counters graph_of graph_of_tables
   fire_raised v h =
-      get_or-set_same st.counters (at pl.counter v) _ 0 (omega (arith, (tables pl sound).counter-lt v h, f.kept.sized.counters-length, (tables pl sound).counts))
+      get_or-set_same st.counters (at pl.counter v) _ 0 (omega (arith, (tables pl sound).counter_lt v h, f.kept.sized.counters_length, (tables pl sound).counts))
       ∙ ap (λ x. (at st.counters (at pl.counter v) + x) % pl.modulus) (sym (share_own pl v))
 
   -- and the others stay
@@ -158,8 +158,8 @@ module _ (pl : Plan) (sound : Sound pl) (st : State) (s : List ℕ) (f : Follows
       record {
         kept = fire_kept pl sound.shape st f.kept p h z;
         stands = fire_beside (graph_of pl) (seats pl sound) (counters pl sound) (shaped pl sound) f.stands
-            v t.node-lt t.next (fire_fireable p h o z) _ (at (set st.opened p 0)) _ _ (fire_moved p h)
-            (ap (at (set st.opened p 0)) t.home-is ∙ get_or-set_same st.opened p 0 0 (omega (arith, f.kept.sized.opened-length, (tables pl sound).counts)))
-            (λ r d. get_or-set_other st.opened p r 0 0 (λ y. d (y ∙ sym t.home-is)))
-            (fire_raised v t.node-lt) (others_stay v _);
+            v t.node_lt t.next (fire_fireable p h o z) _ (at (set st.opened p 0)) _ _ (fire_moved p h)
+            (ap (at (set st.opened p 0)) t.home_is ∙ get_or-set_same st.opened p 0 0 (omega (arith, f.kept.sized.opened_length, (tables pl sound).counts)))
+            (λ r d. get_or-set_other st.opened p r 0 0 (λ y. d (y ∙ sym t.home_is)))
+            (fire_raised v t.node_lt) (others_stay v _);
       }

@@ -30,7 +30,7 @@ module _ (pl : Plan) where
     bounds_fit [] a = tt
     bounds_fit (c ∷ cs) a =
         let k : InBounds pl c = a.0 in
-        (record { code_fits = omega (arith, k.code-most); process_fits = omega (arith, k.process-lt); edge_fits = omega (arith, k.edge-lt) }, bounds_fit cs a.1)
+        (record { code_fits = omega (arith, k.code_most); process_fits = omega (arith, k.process_lt); edge_fits = omega (arith, k.edge_lt) }, bounds_fit cs a.1)
 
     module _ (p : ℕ) (h : p < pl.processes) where
       -- an open and a fire, which do not use their edge, name edge 0

@@ -36,7 +36,7 @@ module _ (pl : Plan) (sound : Sound pl) where
   -- there is a node
   pub some_node : 0 < (graph_of pl).nodes
   unfolding graph_of graph_of_tables
-  some_node = tables.counts.nodes-some
+  some_node = tables.counts.nodes_some
 
   -- both ends of every edge are nodes
   pub shaped : Shaped (graph_of pl)
@@ -55,7 +55,7 @@ module _ (pl : Plan) (sound : Sound pl) where
   -- where a node sits
   pub sits : (v : ℕ) → v < (graph_of pl).nodes → Sits pl v (seats.home v) (seats.seat v)
   unfolding seats seats_of
-  sits v h = record { process_lt = seats.home-lt v h; seat_lt = seats.seat-lt v h; here = seats.node_of v h }
+  sits v h = record { process_lt = seats.home_lt v h; seat_lt = seats.seat_lt v h; here = seats.node_of v h }
 
   -- as the machine works it out
   pub home_seat : (v : ℕ) → v < (graph_of pl).nodes → (home pl v ≡ seats.home v) × (seat pl v ≡ seats.seat v)
@@ -73,8 +73,8 @@ module _ (pl : Plan) (sound : Sound pl) where
         known = h;
         process_of_source = seats.home (at pl.source e);
         process_of_destination = seats.home (at pl.destination e);
-        source_in = (seats.seat (at pl.source e), sits (at pl.source e) (tables.source-lt e h));
-        destination_in = (seats.seat (at pl.destination e), sits (at pl.destination e) (tables.destination-lt e h));
+        source_in = (seats.seat (at pl.source e), sits (at pl.source e) (tables.source_lt e h));
+        destination_in = (seats.seat (at pl.destination e), sits (at pl.destination e) (tables.destination_lt e h));
         differ = d;
       }
 
@@ -83,13 +83,13 @@ module _ (pl : Plan) (sound : Sound pl) where
   unfolding graph_of graph_of_tables
   between e s q =
       s.differ
-      (sym (sits_home (at pl.source e) (tables.source-lt e s.known) s.process-of-source s.source_in) ∙ q
-      ∙ sits_home (at pl.destination e) (tables.destination-lt e s.known) s.process-of-destination s.destination-in)
+      (sym (sits_home (at pl.source e) (tables.source_lt e s.known) s.process_of_source s.source_in) ∙ q
+      ∙ sits_home (at pl.destination e) (tables.destination_lt e s.known) s.process_of_destination s.destination_in)
 
   -- the sum at an edge is that of either end's counter
   pub sum_at_end : (e v : ℕ) → v < (graph_of pl).nodes → counter_sum pl (at pl.counter v) ≡ edge_sum pl e
   unfolding C3 edge_sum graph_of graph_of_tables
-  sum_at_end e v h = (sound.upheld.c3 (at pl.counter v) (tables.counter-lt v h)).0
+  sum_at_end e v h = (sound.upheld.c3 (at pl.counter v) (tables.counter_lt v h)).0
 
   -- the plan's counters
   unfoldable pub counters : Counters (graph_of pl) seats
@@ -101,14 +101,14 @@ module _ (pl : Plan) (sound : Sound pl) where
         share = share pl.counter pl.increment;
         total = counter_sum pl;
         n = pl.modulus;
-        counter_lt = tables.counter-lt;
+        counter_lt = tables.counter_lt;
         share_other = share_none pl;
         c1 = λ u v hu hv e. sound.upheld.c1 u v hu hv e (seats.home u) (seats.home v) (seats.seat u, sits u hu) (seats.seat v, sits v hv);
         c2 = λ e h d. subst (0 <◌) (sym (share_own pl (at pl.source e))) (sound.upheld.c2 e (synchronising e h d));
-        c3 = λ v h. (refl, (sound.upheld.c3 (at pl.counter v) (tables.counter-lt v h)).1);
-        same_total = λ e h d. sum_at_end e (at pl.source e) (tables.source-lt e h) ∙ sym (sum_at_end e (at pl.destination e) (tables.destination-lt e h));
+        c3 = λ v h. (refl, (sound.upheld.c3 (at pl.counter v) (tables.counter_lt v h)).1);
+        same_total = λ e h d. sum_at_end e (at pl.source e) (tables.source_lt e h) ∙ sym (sum_at_end e (at pl.destination e) (tables.destination_lt e h));
         divides = λ v h. (sound.upheld.c4.0.0, sound.upheld.c4.0.1 ∙ ap (◌* sound.upheld.c4.0.0) (sym (sum_at_end 0 v h)));
         c4 = λ e h d.
             let r = sound.upheld.c4.1 e (synchronising e h d) in
-            (r.0, r.1, subst (λ q. q * (at pl.tokens e + r.0) < pl.modulus) (sym (sum_at_end e (at pl.destination e) (tables.destination-lt e h))) r.2);
+            (r.0, r.1, subst (λ q. q * (at pl.tokens e + r.0) < pl.modulus) (sym (sum_at_end e (at pl.destination e) (tables.destination_lt e h))) r.2);
       }

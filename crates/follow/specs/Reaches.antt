@@ -69,7 +69,7 @@ module _ (pl : Plan) (sound : Sound pl) where
     pub lead_by_calls : (d : ℕ) → Emptiest (graph_of pl) (graph_of pl).tokens m n d
         → (cs : List Call) × AllInBounds pl cs × (firings n (run_firings pl fresh cs) ≡ firings m (run_firings pl fresh cs) + d)
     lead_by_calls d a =
-        let t = lead.lead-reached (graph_of pl) (graph_of pl).tokens (shaped pl sound) (every_cycle_holds pl sound) m n h d a in
+        let t = lead.lead_reached (graph_of pl) (graph_of pl).tokens (shaped pl sound) (every_cycle_holds pl sound) m n h d a in
         let r = every_order_reached t.0 t.1 in
         (r.calls, r.bounds, rw r.fires (omega (arith, t.2, t.3)))
 
@@ -77,6 +77,6 @@ module _ (pl : Plan) (sound : Sound pl) where
     pub free_by_calls : (Linked (graph_of pl) m n → ⊥) → (k : ℕ)
         → (cs : List Call) × AllInBounds pl cs × (firings n (run_firings pl fresh cs) ≡ k) × (firings m (run_firings pl fresh cs) ≡ 0)
     free_by_calls none k =
-        let t = lead.unlinked-free (graph_of pl) (graph_of pl).tokens (shaped pl sound) (every_cycle_holds pl sound) m n h none k in
+        let t = lead.unlinked_free (graph_of pl) (graph_of pl).tokens (shaped pl sound) (every_cycle_holds pl sound) m n h none k in
         let r = every_order_reached t.0 t.1 in
         (r.calls, r.bounds, ap (firings n) r.fires ∙ t.3, ap (firings m) r.fires ∙ t.2)

@@ -65,7 +65,7 @@ module _ (G : Graph) (S : Seats G) (p : ℕ) (f : ℕ → ℕ) where
     unfolding sum
     sum_first_seats zero l = sum_none (first_seats 0) G.nodes (λ v m. not_among 0 v (λ e b. omega arith))
     sum_first_seats (suc k) l =
-        sum_one_place (first_seats (suc k)) (first_seats k) G.nodes u (f u) (S.node-lt p h k l) others here
+        sum_one_place (first_seats (suc k)) (first_seats k) G.nodes u (f u) (S.node_lt p h k l) others here
         ∙ ap (◌+ f u) (sum_first_seats k (omega arith))
       where
         u : ℕ
@@ -73,8 +73,8 @@ module _ (G : Graph) (S : Seats G) (p : ℕ) (f : ℕ → ℕ) where
 
         here : first_seats (suc k) u ≡ first_seats k u + f u
         here =
-            let at_p = S.home-node p h k l in
-            let at_k = S.seat-node p h k l in
+            let at_p = S.home_node p h k l in
+            let at_k = S.seat_node p h k l in
             omega (arith, among (suc k) u at_p (omega arith), not_among k u (λ e b. omega arith))
 
         others : (v : ℕ) → v < G.nodes → v ≢ u → first_seats (suc k) v ≡ first_seats k v
@@ -97,7 +97,7 @@ module _ (G : Graph) (S : Seats G) (p : ℕ) (f : ℕ → ℕ) where
     sum_round none =
         sum_same f (first_seats (S.length p)) G.nodes (λ v m.
         elim (ℕ_discrete (S.home v) p) [
-          | yes z ↦ sym (among (S.length p) v z (omega (arith, S.seat-lt v m, ap S.length z)))
+          | yes z ↦ sym (among (S.length p) v z (omega (arith, S.seat_lt v m, ap S.length z)))
           | no z ↦ none v m z ∙ sym (not_among (S.length p) v (λ e b. z e))
         ])
         ∙ sum_first_seats (S.length p) (omega arith)

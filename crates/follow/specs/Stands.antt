@@ -28,8 +28,8 @@ module _ (pl : Plan) (sound : Sound pl) (st : State) (s : List ℕ) (f : Follows
   unfolding seats seats_of
   fired_at p j h l =
       let S = seats pl sound in
-      let home = S.home-node p h j l in
-      omega (arith, f.stands.standing.fired (S.node p j) (S.node-lt p h j l), S.seat-node p h j l, ap f.stands.rounds home, ap (at st.positions) home)
+      let home = S.home_node p h j l in
+      omega (arith, f.stands.standing.fired (S.node p j) (S.node_lt p h j l), S.seat_node p h j l, ap f.stands.rounds home, ap (at st.positions) home)
 
   -- each counter is its increments times the firings, modulo N
   counted : (c : ℕ) → c < pl.counters
@@ -42,7 +42,7 @@ module _ (pl : Plan) (sound : Sound pl) (st : State) (s : List ℕ) (f : Follows
       → mark st p e ≡ 0 → 0 < tokens_after pl s e
   unfolding graph_of graph_of_tables
   seen p e h d q o z =
-      let home : (seats pl sound).home (at pl.destination e) ≡ p = ap (seats pl sound).home q ∙ (next_node_is pl sound st f.kept p h).home-is in
+      let home : (seats pl sound).home (at pl.destination e) ≡ p = ap (seats pl sound).home q ∙ (next_node_is pl sound st f.kept p h).home_is in
       f.stands.seen e d.known (between pl sound e d) (end_next pl sound st s f p e h q) (omega (arith, ap (at st.opened) home)) (ap (λ r. mark st r e) home ∙ z)
 
   pub follows_stands : Stands pl st s
@@ -51,7 +51,7 @@ module _ (pl : Plan) (sound : Sound pl) (st : State) (s : List ℕ) (f : Follows
         in_shape = ((kept_exactly pl sound.shape st).0 f.kept).0;
         legal = f.stands.legal;
         rounds = f.stands.rounds;
-        fired = λ v p j x. subst (λ u. firings u s ≡ f.stands.rounds p + before j (at st.positions p)) x.here (fired_at p j x.process-lt x.seat-lt);
+        fired = λ v p j x. subst (λ u. firings u s ≡ f.stands.rounds p + before j (at st.positions p)) x.here (fired_at p j x.process_lt x.seat_lt);
         counted = counted;
         seen = seen;
       }

@@ -43,11 +43,11 @@ module _ (pl : Plan) (sound : Sound pl) where
       let S = seats pl sound in
       let position : ℕ = at st.positions p in
       let fits : position < at pl.lengths p = (kept.parts.positions p (omega (arith, (tables pl sound).counts))).known h in
-      let home_p : S.home (node_at pl p position) ≡ p = S.home-node p h position fits in
+      let home_p : S.home (node_at pl p position) ≡ p = S.home_node p h position fits in
       record {
-        node_lt = S.node-lt p h position fits;
+        node_lt = S.node_lt p h position fits;
         home_is = home_p;
-        next = S.seat-node p h position fits ∙ ap (at st.positions) (sym home_p);
+        next = S.seat_node p h position fits ∙ ap (at st.positions) (sym home_p);
       }
 
   -- an edge whose end is next leads to its process's next node
@@ -57,7 +57,7 @@ module _ (pl : Plan) (sound : Sound pl) where
   destination_is st e h next =
       let S = seats pl sound in
       let n = (graph_of pl).destination e in
-      sym (S.node_of n ((shaped pl sound).destination-lt e h)) ∙ ap (node_at pl (S.home n)) next
+      sym (S.node_of n ((shaped pl sound).destination_lt e h)) ∙ ap (node_at pl (S.home n)) next
 
   -- a fresh state stands for no firings
   pub fresh_follows : Follows fresh []

@@ -45,11 +45,11 @@ module _ (pl : Plan) (shape : InShape pl) where
 
   -- so plan and state pass the test of both
   pub fits_kept : (cs : List Call) → both_fit pl (state_after pl cs) ≡ true
-  fits_kept cs = kept.kept-fits pl shape (state_after pl cs) (reached_kept pl shape cs)
+  fits_kept cs = kept.kept_fits pl shape (state_after pl cs) (reached_kept pl shape cs)
 
   -- and no call is answered with 25
   pub never_25 : (cs : List Call) (c : Call) → (turn pl (state_after pl cs) c).reply ≡ Refused 25 → ⊥
-  never_25 cs c = kept.never-25 pl shape (state_after pl cs) (reached_kept pl shape cs) c
+  never_25 cs c = kept.never_25 pl shape (state_after pl cs) (reached_kept pl shape cs) c
 
 module _ (pl : Plan) (sound : Sound pl) (cs : List Call) where
   -- ---- the run follows the marked graph
@@ -116,8 +116,8 @@ module _ (pl : Plan) (sound : Sound pl) (cs : List Call) where
   pub progress : (p : ℕ) × (p < pl.processes) × Fireable (graph_of pl) (tokens_now pl cs) (next_node pl (state_after pl cs) p)
       × ((es : List ℕ) × YetToSee pl (state_after pl cs) p es × Driven pl (state_after pl cs) p (next_node pl (state_after pl cs) p) es)
   progress =
-      let t = drives.some-process pl sound (state_after pl cs) (fired_after pl cs) followed in
-      let es = drives.yet-to-see pl sound (state_after pl cs) (fired_after pl cs) followed t.0 t.1 in
+      let t = drives.some_process pl sound (state_after pl cs) (fired_after pl cs) followed in
+      let es = drives.yet_to_see pl sound (state_after pl cs) (fired_after pl cs) followed t.0 t.1 in
       (t.0, t.1, t.2, (es.0, es.1, driven t.0 t.1 t.2 es.0 es.1))
 
 module _ (pl : Plan) (sound : Sound pl) where
@@ -139,7 +139,7 @@ module _ (pl : Plan) (sound : Sound pl) where
 
   -- calls in bounds are calls that C can make
   pub bounds_fit : (cs : List Call) → AllInBounds pl cs → AllFit32 cs
-  bounds_fit = bounds.bounds-fit pl (tables pl sound).counts
+  bounds_fit = bounds.bounds_fit pl (tables pl sound).counts
 
   -- wherever a route leads from m to n, there is an emptiest one
   pub emptiest_there : (m n : ℕ) → m < pl.nodes → Linked (graph_of pl) m n → (d : ℕ) × Emptiest (graph_of pl) (graph_of pl).tokens m n d

@@ -16,7 +16,7 @@ fn share_at<'a>(
     requires { (i < 64) × (at order.now i < 64) }
     ensures { result ≡ share counter.now increment.now c (at order.now i) }
 {
-    let v = bytes::to_index(order[i]);
+    let v = numerals::to_index(order[i]);
     if counter[v] == c { increment[v] } else { 0 }
 }
 
@@ -100,7 +100,7 @@ pub fn b_of<'a>(
     ensures { (result ≡ b_in order.now lengths.now counter.now increment.now counters.now nodes processes modulus x) × (result < modulus) }
 {
     let taken = earlier(order, lengths, counter, increment, nodes, processes, x);
-    minus_modulo(modulus, counters[bytes::to_index(counter[x])], taken)
+    minus_modulo(modulus, counters[numerals::to_index(counter[x])], taken)
 }
 
 // Found: rounded b(n) minus rounded b(m), modulo N, differs from Q times the starting tokens, modulo N.
@@ -130,6 +130,6 @@ pub fn raise<'a>(
     requires { RaiseOk counter.now increment.now counters.old modulus v }
     ensures { counters.new ≡ raised_in counter.now increment.now counters.old modulus v }
 {
-    let c = bytes::to_index(counter[v]);
-    counters[c] = plus_modulo(modulus, counters[c], bytes::to_word(increment[v]));
+    let c = numerals::to_index(counter[v]);
+    counters[c] = plus_modulo(modulus, counters[c], numerals::to_word(increment[v]));
 }

@@ -2,7 +2,7 @@
 -- Assumes nothing.
 use Rattle.std.specs.Prelude.{List, Bool, ℕ, eqb, length}
 use Rattle.loops.specs.Choice.{both}
-use Rattle.bytes.specs.LittleEndian.{two_bytes, four_bytes}
+use Rattle.numerals.specs.LittleEndian.{two_bytes, four_bytes}
 use Rattle.image.specs.Image.{order_from, nodes_from, edges_from, total_in}
 
 -- number 2

@@ -2,7 +2,7 @@
 -- Assumes nothing.
 use Rattle.std.specs.Prelude.{◌≡◌, List, ℕ, ◌+◌, ◌*◌, length}
 use Rattle.loops.specs.Table.{padded}
-use Rattle.bytes.specs.LittleEndian.{two_bytes, four_bytes}
+use Rattle.numerals.specs.LittleEndian.{two_bytes, four_bytes}
 use Rattle.plan.specs.declared.Plan.{Plan}
 use Rattle.plan.specs.Value.{with_q, counter_sum}
 use Rattle.image.specs.Offsets.{order_start, node_start, edge_start, total}

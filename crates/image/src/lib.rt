@@ -1,7 +1,7 @@
 // A plan image: where its tables begin, tests 2 and 4, and the plan value that its numbers give.
 ghost use Rattle.std.specs.Prelude.{◌≡◌, ◌+◌, ◌<◌, ◌≤◌, eqb, length};
 ghost use Rattle.loops.specs.Table.{padded};
-ghost use Rattle.bytes.specs.LittleEndian.{two_bytes, four_bytes};
+ghost use Rattle.numerals.specs.LittleEndian.{two_bytes, four_bytes};
 ghost use Rattle.image.specs.Image.{entry, nodes_in, processes_in, edges_in, order_from, nodes_from, edges_from, tables_of};
 ghost use Rattle.image.specs.Offsets.{order_start, node_start, edge_start, total};
 ghost use Rattle.image.specs.Room.{Room, Laid};
@@ -14,8 +14,8 @@ pub fn format_fits(image: &[u8]) -> bool
     requires { 36 ≤ length image.now }
     ensures { result ≡ good_format image.now }
 {
-    let zero = bytes::pair_at(image, 10);
-    if bytes::pair_at(image, 0) == 1 {
+    let zero = numerals::pair_at(image, 10);
+    if numerals::pair_at(image, 0) == 1 {
         zero == 0
     } else {
         false
@@ -30,7 +30,7 @@ fn table_of_64(image: &[u8], start: usize, step: usize, n: usize) -> [u16; 64]
     let mut table = [0u16; 64];
     let mut k: usize = 0;
     while k < n {
-        table[k] = bytes::pair_at(image, start + step * k);
+        table[k] = numerals::pair_at(image, start + step * k);
         k += 1;
     }
     table
@@ -43,7 +43,7 @@ fn table_of_512(image: &[u8], start: usize, step: usize, n: usize) -> [u16; 512]
     let mut table = [0u16; 512];
     let mut k: usize = 0;
     while k < n {
-        table[k] = bytes::pair_at(image, start + step * k);
+        table[k] = numerals::pair_at(image, start + step * k);
         k += 1;
     }
     table
@@ -54,7 +54,7 @@ fn count_at(image: &[u8], place: usize) -> usize
     requires { place + 1 < length image.now }
     ensures { (result ≡ two_bytes image.now place) × (result < 65536) }
 {
-    bytes::to_index(bytes::pair_at(image, place))
+    numerals::to_index(numerals::pair_at(image, place))
 }
 
 // Where the firing order begins: after the process lengths.
@@ -94,7 +94,7 @@ fn holds_at(image: &[u8], place: usize, wanted: usize) -> bool
     requires { place + 3 < length image.now }
     ensures { result ≡ eqb (four_bytes image.now place) wanted }
 {
-    let held = bytes::word_to_index(bytes::quad_at(image, place));
+    let held = numerals::word_to_index(numerals::quad_at(image, place));
     held == wanted
 }
 
@@ -208,11 +208,11 @@ pub fn plan_from(image: &[u8]) -> Plan
     ensures { result ≡ tables_of image.now }
 {
     Plan {
-        nodes: bytes::pair_at(image, 2),
-        processes: bytes::pair_at(image, 4),
-        edges: bytes::pair_at(image, 6),
-        counters: bytes::pair_at(image, 8),
-        modulus: bytes::quad_at(image, 12),
+        nodes: numerals::pair_at(image, 2),
+        processes: numerals::pair_at(image, 4),
+        edges: numerals::pair_at(image, 6),
+        counters: numerals::pair_at(image, 8),
+        modulus: numerals::quad_at(image, 12),
         q: 0,
         lengths: lengths_of(image),
         order: order_of(image),

@@ -37,17 +37,17 @@ module _ (G : Graph) (S : Seats G) where
         | yes l ↦ let r = ride G S u v hu hv p l in (r.0, r.1)
         | no l ↦
             let q : ℕ = S.home u in
-            let hq = S.home-lt u hu in
-            let su = S.seat-lt u hu in
+            let hq = S.home_lt u hu in
+            let su = S.seat_lt u hu in
             let j : ℕ = S.length q - 1 in
             let w : ℕ = S.node q j in
             let first : ℕ = S.node q 0 in
-            let hw : w < G.nodes = S.node-lt q hq j (omega arith) in
-            let hf : first < G.nodes = S.node-lt q hq 0 (omega arith) in
-            let pw : S.home w ≡ q = S.home-node q hq j (omega arith) in
-            let sw : S.seat w ≡ j = S.seat-node q hq j (omega arith) in
-            let pf : S.home first ≡ q = S.home-node q hq 0 (omega arith) in
-            let sf : S.seat first ≡ 0 = S.seat-node q hq 0 (omega arith) in
+            let hw : w < G.nodes = S.node_lt q hq j (omega arith) in
+            let hf : first < G.nodes = S.node_lt q hq 0 (omega arith) in
+            let pw : S.home w ≡ q = S.home_node q hq j (omega arith) in
+            let sw : S.seat w ≡ j = S.seat_node q hq j (omega arith) in
+            let pf : S.home first ≡ q = S.home_node q hq 0 (omega arith) in
+            let sf : S.seat first ≡ 0 = S.seat_node q hq 0 (omega arith) in
             let a = ride G S u w hu hw (sym pw) (omega arith) in
             let c = S.closing w hw (omega (arith, sw, ap S.length pw)) in
             let b = ride G S first v hf hv (pf ∙ p) (omega arith) in
@@ -62,14 +62,14 @@ module _ (pl : Plan) (t : Tabled pl) (u : Upheld pl) where
 
   in_home : (v : ℕ) → v < (graph_of pl).nodes → InProcess pl v (seats.home v)
   unfolding seats seats_of
-  in_home v h = (seats.seat v, record { process_lt = seats.home-lt v h; seat_lt = seats.seat-lt v h; here = seats.node_of v h })
+  in_home v h = (seats.seat v, record { process_lt = seats.home_lt v h; seat_lt = seats.seat_lt v h; here = seats.node_of v h })
 
   -- from the end of every edge a route leads back
   back : (e : ℕ) → e < (graph_of pl).edges → Linked (graph_of pl) ((graph_of pl).destination e) ((graph_of pl).source e)
   unfolding C4 Exceeds RouteBack graph_of graph_of_tables
   back e l =
-      let hs = t.source-lt e l in
-      let hd = t.destination-lt e l in
+      let hs = t.source_lt e l in
+      let hd = t.destination_lt e l in
       elim (ℕ_discrete (seats.home (at pl.source e)) (seats.home (at pl.destination e))) [
         | yes p ↦ round_linked (graph_of pl) seats (at pl.destination e) (at pl.source e) hd hs (sym p)
         | no p ↦

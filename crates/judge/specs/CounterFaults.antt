@@ -82,14 +82,14 @@ module _ (pl : Plan) (t : Tabled pl) where
       from : Fault10 pl c → (c < pl.counters) × (bad_counter pl c ≡ true)
       from f =
           let d : home pl f.one ≢ home pl f.other =
-          λ e. f.differ (sym (home_is f.one f.process-of-one f.one_in) ∙ e ∙ home_is f.other f.process-of-other f.other-in) in
-          let r = (leads c f.one f.one-lt (eq-eqb _ _ f.one_has)).0 in
+          λ e. f.differ (sym (home_is f.one f.process_of_one f.one_in) ∙ e ∙ home_is f.other f.process_of_other f.other_in) in
+          let r = (leads c f.one f.one_lt (eq-eqb _ _ f.one_has)).0 in
           let stray : (v : ℕ) → v < pl.nodes → at pl.counter v ≡ c → home pl v ≢ home pl (leader c) → bad_counter pl c ≡ true =
           λ v l h q. both_intro _ _ (lt-ltb _ _ r) (any_from (strays_in (home_table pl) pl.counter (leader c) c) pl.nodes v l (strays_from c v l r h q)) in (
             f.known,
             elim (ℕ_discrete (home pl f.one) (home pl (leader c))) [
-              | no q ↦ stray f.one f.one-lt f.one_has q
-              | yes q ↦ stray f.other f.other-lt f.other-has (λ e. d (q ∙ sym e))
+              | no q ↦ stray f.one f.one_lt f.one_has q
+              | yes q ↦ stray f.other f.other_lt f.other_has (λ e. d (q ∙ sym e))
             ],
           )
 
@@ -100,7 +100,7 @@ module _ (pl : Plan) (t : Tabled pl) where
         | yes x ↦ x
         | no x ↦
             absurd (none (at pl.counter u) (record {
-              known = t.counter-lt u hu;
+              known = t.counter_lt u hu;
               one = u;
               other = v;
               one_lt = hu;
@@ -118,7 +118,7 @@ module _ (pl : Plan) (t : Tabled pl) where
   pub c1_clean : C1 pl → (c : ℕ) → Fault10 pl c → ⊥
   unfolding C1
   c1_clean h c f =
-      f.differ (h f.one f.other f.one-lt f.other-lt (f.one_has ∙ sym f.other-has) f.process-of-one f.process-of-other f.one_in f.other-in)
+      f.differ (h f.one f.other f.one_lt f.other_lt (f.one_has ∙ sym f.other_has) f.process_of_one f.process_of_other f.one_in f.other_in)
 
   pub test_11 : (v : ℕ) → ((v < pl.nodes) × (bad_increment pl v ≡ true)) ↔ Fault11 pl v
   unfolding bad_increment_in sends_in Fault11
@@ -146,7 +146,7 @@ module _ (pl : Plan) (t : Tabled pl) where
   c2_passes none e y =
       elim (dec_lt 0 (at pl.increment (at pl.source e))) [
         | yes p ↦ p
-        | no p ↦ absurd (none (at pl.source e) (t.source-lt e y.known, omega arith, (e, y, refl)))
+        | no p ↦ absurd (none (at pl.source e) (t.source_lt e y.known, omega arith, (e, y, refl)))
       ]
 
   pub c2_clean : C2 pl → (v : ℕ) → Fault11 pl v → ⊥

@@ -91,7 +91,7 @@ module _ (pl : Plan) where
 
   pub none_applies_back : NoFault pl → NoneOf (conditions_order pl)
   unfolding NoneOf conditions_order
-  none_applies_back f = (f.none-9, (f.none-10, (f.none-11, (f.none-12, (f.none-13, (f.none-14, (f.none-15, (f.none-16, tt))))))))
+  none_applies_back f = (f.none_9, (f.none_10, (f.none_11, (f.none_12, (f.none_13, (f.none_14, (f.none_15, (f.none_16, tt))))))))
 
   -- nor of the faults from 5 on, or of all: exactly where the tables hold what they should, the plan has its processes and C0 to C4 hold
   pub clean_exactly : NoneOf (plan_order pl) ↔ (Tabled pl × Upheld pl)

@@ -26,19 +26,19 @@ module _ (pl : Plan) (t : Tabled pl) where
   -- Q is at least 1 where no counter has fault 12
   pub q_some : ((c : ℕ) → Fault12 pl c → ⊥) → 1 ≤ counter_sum pl 0
   unfolding C3
-  q_some none = let c : C3 pl = c3_passes pl t none in (c 0 t.counts.counters-some).1
+  q_some none = let c : C3 pl = c3_passes pl t none in (c 0 t.counts.counters_some).1
 
   pub conditions_exactly : NoFault pl ↔ Upheld pl
   unfolding C4
   conditions_exactly = (
     λ f.
         record {
-          processes = processes_pass pl t f.none-9;
-          c0 = c0_passes pl t f.none-13;
-          c1 = c1_passes pl t f.none-10;
-          c2 = c2_passes pl t f.none-11;
-          c3 = c3_passes pl t f.none-12;
-          c4 = c4_passes pl t (q_some f.none-12) f.none-14 f.none-15 f.none-16;
+          processes = processes_pass pl t f.none_9;
+          c0 = c0_passes pl t f.none_13;
+          c1 = c1_passes pl t f.none_10;
+          c2 = c2_passes pl t f.none_11;
+          c3 = c3_passes pl t f.none_12;
+          c4 = c4_passes pl t (q_some f.none_12) f.none_14 f.none_15 f.none_16;
         },
     λ u.
         record {

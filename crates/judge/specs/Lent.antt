@@ -46,8 +46,8 @@ module _ {source destination tokens : List ℕ} {nodes edges : ℕ} (ok : EdgesO
   pub ends_in_row : EndsInRow source destination edges
   ends_in_row =
       record {
-        source_lt = λ e h. omega (arith, ok.source-lt e h, ok.nodes-most);
-        destination_lt = λ e h. omega (arith, ok.destination-lt e h, ok.nodes-most);
+        source_lt = λ e h. omega (arith, ok.source_lt e h, ok.nodes_most);
+        destination_lt = λ e h. omega (arith, ok.destination_lt e h, ok.nodes_most);
       }
 
   -- no loop sum is above 1,000 tokens and `no_route`
@@ -59,8 +59,8 @@ module _ {source destination tokens : List ℕ} {nodes edges : ℕ} (ok : EdgesO
             omega (
               arith,
               ap (λ x. at x e) s ∙ padded_at (loop_sum_in source destination tokens edges) 512 edges e l,
-              ok.tokens-most e l,
-              row_most source destination tokens edges (at destination e) (at source e) (ends_in_row.destination-lt e l),
+              ok.tokens_most e l,
+              row_most source destination tokens edges (at destination e) (at source e) (ends_in_row.destination_lt e l),
             )
         | no l ↦ omega (arith, ap (λ x. at x e) s, padded_past (loop_sum_in source destination tokens edges) 512 edges e (omega arith))
       ]
@@ -72,7 +72,7 @@ unfolding share
 sum_most counter increment nodes counters c ok h e =
     omega (
       arith,
-      sum_le_below (share counter increment c) 255 nodes (λ v l. if_le (eqb (at counter v) c) (ok.increment-most v l) (omega arith)),
+      sum_le_below (share counter increment c) 255 nodes (λ v l. if_le (eqb (at counter v) c) (ok.increment_most v l) (omega arith)),
     )
 
 -- where test 12 passes, counter 0's sum is at least 1
@@ -80,7 +80,7 @@ pub sum_some : (counter increment : List ℕ) (nodes counters : ℕ) {q : ℕ} �
     → counters ≤ first (bad_sum_in counter increment nodes q) counters → 1 ≤ q
 unfolding bad_sum_in
 sum_some counter increment nodes counters {q} ok e h =
-    let none = first_none (bad_sum_in counter increment nodes q) counters 0 h ok.counters-some in
+    let none = first_none (bad_sum_in counter increment nodes q) counters 0 h ok.counters_some in
     let differ = eqb-false (sum (share counter increment 0) nodes) 0 (either_false (eqb (sum (share counter increment 0) nodes) 0) _ none).0 in
     omega arith
 
@@ -94,15 +94,15 @@ module _ (pl : Plan) (t : Tabled pl) where
   pub edges_ok : EdgesOk pl.source pl.destination pl.tokens pl.nodes pl.edges
   edges_ok =
       record {
-        nodes_most = t.counts.nodes-most;
+        nodes_most = t.counts.nodes_most;
         edges_most = t.counts.edges_most;
-        source_lt = t.source-lt;
-        destination_lt = t.destination-lt;
-        tokens_most = t.tokens-most;
+        source_lt = t.source_lt;
+        destination_lt = t.destination_lt;
+        tokens_most = t.tokens_most;
       }
 
   pub counters_ok : CountersOk pl.increment pl.nodes pl.counters
-  counters_ok = record { counters_some = t.counts.counters-some; counters_most = t.counts.counters-most; increment_most = t.increment-most }
+  counters_ok = record { counters_some = t.counts.counters_some; counters_most = t.counts.counters_most; increment_most = t.increment_most }
 
   -- the table of processes tells two nodes of different processes
   pub different_exactly : (v w : ℕ) → v < pl.nodes → w < pl.nodes → (different (home_table pl) v w ≡ true) ↔ (home pl v ≢ home pl w)

@@ -126,9 +126,9 @@ module _ (pl : Plan) where
 
         from : Fault9 pl i → (i < pl.nodes) × (bad_order_position pl i ≡ true)
         from f =
-            let none : wanted t f.process f.seat f.process-lt f.seat-lt ≡ false =
-            not_true _ (λ e. f.broken ((process_edge_exactly t f.process f.seat f.process-lt f.seat-lt).0 e)) in
-            (omega (arith, f.here, within pl t f.process f.seat f.process-lt f.seat-lt), subst (λ x. bad_order_position pl x ≡ true) (sym f.here) (ap not none))
+            let none : wanted t f.process f.seat f.process_lt f.seat_lt ≡ false =
+            not_true _ (λ e. f.broken ((process_edge_exactly t f.process f.seat f.process_lt f.seat_lt).0 e)) in
+            (omega (arith, f.here, within pl t f.process f.seat f.process_lt f.seat_lt), subst (λ x. bad_order_position pl x ≡ true) (sym f.here) (ap not none))
 
     -- where no position is bad, the plan has its processes
     pub processes_pass : ((i : ℕ) → Fault9 pl i → ⊥) → HasProcesses pl
@@ -150,4 +150,4 @@ module _ (pl : Plan) where
     -- and a plan that has its processes has no such fault
     pub processes_clean : HasProcesses pl → (i : ℕ) → Fault9 pl i → ⊥
     unfolding HasProcesses
-    processes_clean P i f = f.broken (record { on = P.on f.process f.process-lt f.seat; closing = P.closing f.process f.process-lt f.seat })
+    processes_clean P i f = f.broken (record { on = P.on f.process f.process_lt f.seat; closing = P.closing f.process f.process_lt f.seat })

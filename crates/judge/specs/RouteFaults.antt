@@ -52,11 +52,11 @@ module _ (pl : Plan) (t : Tabled pl) where
 
   source_lt : (e : ℕ) → e < pl.edges → at pl.source e < pl.nodes
   unfolding graph_of graph_of_tables
-  source_lt e l = t.source-lt e l
+  source_lt e l = t.source_lt e l
 
   destination_lt : (e : ℕ) → e < pl.edges → at pl.destination e < pl.nodes
   unfolding graph_of graph_of_tables
-  destination_lt e l = t.destination-lt e l
+  destination_lt e l = t.destination_lt e l
 
   shaped_tables : Shaped (graph_of_tables pl.nodes pl.edges pl.source pl.destination pl.tokens)
   unfolding graph_of
@@ -66,32 +66,32 @@ module _ (pl : Plan) (t : Tabled pl) where
   back_some : (e : ℕ) → e < pl.edges → (back e < no_route) ↔ Linked (graph_of pl) (at pl.destination e) (at pl.source e)
   unfolding graph_of
   back_some e l =
-      row_some pl.nodes pl.edges pl.source pl.destination pl.tokens (at pl.destination e) t.counts.nodes-most shaped_tables t.tokens-most
+      row_some pl.nodes pl.edges pl.source pl.destination pl.tokens (at pl.destination e) t.counts.nodes_most shaped_tables t.tokens_most
       (destination_lt e l) (at pl.source e) (source_lt e l)
 
   -- and is then the tokens of the emptiest
   back_emptiest : (e : ℕ) → e < pl.edges → back e < no_route → RouteBack pl e (back e)
   unfolding graph_of RouteBack
   back_emptiest e l h =
-      row_emptiest pl.nodes pl.edges pl.source pl.destination pl.tokens (at pl.destination e) t.counts.nodes-most shaped_tables t.tokens-most
+      row_emptiest pl.nodes pl.edges pl.source pl.destination pl.tokens (at pl.destination e) t.counts.nodes_most shaped_tables t.tokens_most
       (destination_lt e l) (at pl.source e) (source_lt e l) h
 
   back_small : (e : ℕ) → e < pl.edges → back e < no_route → back e ≤ 63000
   back_small e l h =
-      row_small pl.nodes pl.edges pl.source pl.destination pl.tokens (at pl.destination e) t.counts.nodes-most shaped_tables t.tokens-most
+      row_small pl.nodes pl.edges pl.source pl.destination pl.tokens (at pl.destination e) t.counts.nodes_most shaped_tables t.tokens_most
       (destination_lt e l) (at pl.source e) (source_lt e l) h
 
   -- the tokens on the emptiest route back stand in the row
   back_is : (e d : ℕ) → e < pl.edges → RouteBack pl e d → back e ≡ d
   unfolding graph_of RouteBack
   back_is e d l a =
-      row_is pl.nodes pl.edges pl.source pl.destination pl.tokens (at pl.destination e) t.counts.nodes-most shaped_tables t.tokens-most
+      row_is pl.nodes pl.edges pl.source pl.destination pl.tokens (at pl.destination e) t.counts.nodes_most shaped_tables t.tokens_most
       (destination_lt e l) (at pl.source e) d (source_lt e l) a
 
   -- a route of at least one edge starts at a node
   first_node : (e : ℕ) (es : List ℕ) (v : ℕ) → Route (graph_of pl) v (e ∷ es) v → v < pl.nodes
   unfolding Route graph_of graph_of_tables
-  first_node e es v r = omega (arith, r.1, t.source-lt e r.0)
+  first_node e es v r = omega (arith, r.1, t.source_lt e r.0)
 
   loop_is : (e : ℕ) → loop_sum pl e ≡ at pl.tokens e + back e
   unfolding loop_sum_in
@@ -141,7 +141,7 @@ module _ (pl : Plan) (t : Tabled pl) where
   -- an edge's loop is at or above `no_route` exactly where no route leads back
   far_loop : (e : ℕ) → e < pl.edges → (no_route ≤ loop_sum pl e) ↔ (Linked (graph_of pl) (at pl.destination e) (at pl.source e) → ⊥)
   far_loop e l = (
-    λ h k. let s = (back_some e l).1 k in omega (arith, loop_is e, back_small e l s, t.tokens-most e l),
+    λ h k. let s = (back_some e l).1 k in omega (arith, loop_is e, back_small e l s, t.tokens_most e l),
     λ f.
         elim (dec_lt (back e) no_route) [
           | yes p ↦ absurd (f ((back_some e l).0 p))

@@ -26,7 +26,7 @@ module _ (pl : Plan) where
       elim (judged_decided pl).one_of [
         | inl a ↦ inl (_, _, _, a)
         | inr r ↦
-            let few = first_number _ _ (each_number pl) r.0 r.1 (((judged_decided pl).refused-first r.0 r.1).0 r.2) in
+            let few = first_number _ _ (each_number pl) r.0 r.1 (((judged_decided pl).refused_first r.0 r.1).0 r.2) in
             inr (r.0, r.1, r.2, few.0, few.1)
       ]
 
@@ -49,26 +49,26 @@ module _ (pl : Plan) where
   -- a plan value is accepted exactly when its tables hold what 01's layout asks of them, its processes are processes, and C0 to C4 hold
   pub accepted_exactly : AcceptedPlan pl ↔ (Tabled pl × Upheld pl)
   accepted_exactly = (
-    λ a. (clean_exactly pl).0 ((judged_decided pl).final-clean.0 (is_accepted a)),
-    λ h. (_, _, _, (judged_decided pl).final-clean.1 ((clean_exactly pl).1 h)),
+    λ a. (clean_exactly pl).0 ((judged_decided pl).final_clean.0 (is_accepted a)),
+    λ h. (_, _, _, (judged_decided pl).final_clean.1 ((clean_exactly pl).1 h)),
   )
 
   -- "The lowest number that applies is given; within it the lowest place.": the first of the order, in which numbers rise
   pub refused_first : (k p : ℕ) → (judged pl ≡ Refused k p) ↔ FirstFault (plan_order pl) k p
-  refused_first = (judged_decided pl).refused-first
+  refused_first = (judged_decided pl).refused_first
 
 -- the numbers of a plan with its tables that upholds the conditions
 module _ (pl : Plan) (t : Tabled pl) (u : Upheld pl) where
   -- Q is at least 1
   pub sum_some : 1 ≤ counter_sum pl 0
-  sum_some = q_some pl t ((conditions_exactly pl t).1 u).none-12
+  sum_some = q_some pl t ((conditions_exactly pl t).1 u).none_12
 
   -- "the least modulus: the smallest N that would pass 15 and 16 (Q where no edge synchronises)"
   pub least_is_least : LeastModulus pl (least_modulus pl)
-  least_is_least = least.least-is-least pl t sum_some ((conditions_exactly pl t).1 u).none-14
+  least_is_least = least.least_is_least pl t sum_some ((conditions_exactly pl t).1 u).none_14
 
   pub least_alone : ((e : ℕ) → Synchronising pl e → ⊥) → least_modulus pl ≡ counter_sum pl 0
-  least_alone = least.least-alone pl t sum_some ((conditions_exactly pl t).1 u).none-14
+  least_alone = least.least_alone pl t sum_some ((conditions_exactly pl t).1 u).none_14
 
   -- with Q filled in it is in shape, and sound
   pub sound : pl.q ≡ counter_sum pl 0 → Sound pl

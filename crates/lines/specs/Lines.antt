@@ -5,7 +5,7 @@ use Rattle.judge.specs.declared.Answer.{Answer}
 use Rattle.judge.specs.declared.Answer.TheVariants as answers
 use Rattle.machine.specs.declared.Reply.{Reply}
 use Rattle.machine.specs.declared.Reply.TheVariants as replied
-use Rattle.bytes.specs.Decimal.{decimal, number_then}
+use Rattle.numerals.specs.Decimal.{decimal, number_then}
 use Rattle.lines.specs.Words.{blank, newline, plan_word, refused_word, opened_word, found_word, wait_word, fired_word, turned_down_word}
 
 -- ---- the first line

@@ -2,10 +2,10 @@
 ghost use Rattle.std.specs.Prelude.{◌++◌, ◌+◌, ◌<◌, ◌≤◌, length};
 ghost use Rattle.lines.specs.Words.{newline};
 ghost use Rattle.lines.specs.Lines.{plan_line, refused_line, refusal_text, said, line};
-ghost use Rattle.bytes.specs.Decimal.{number_then};
-ghost use Rattle.bytes.specs.Writing.{Put};
+ghost use Rattle.numerals.specs.Decimal.{number_then};
+ghost use Rattle.numerals.specs.Writing.{Put};
 
-use bytes::text::{put_decimal, put_number, put_word};
+use numerals::text::{put_decimal, put_number, put_word};
 use judge::Answer;
 use machine::Reply;
 

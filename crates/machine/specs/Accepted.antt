@@ -47,12 +47,12 @@ module _ (pl : Plan) (shape : InShape pl) (st : State) (ok : StateInShape pl st)
 
   opens_it : c.process < pl.processes → Either (do_open pl st c.process)
   unfolding Either Changed do_open
-  opens_it h = inr (inl (_, refl, opens pl st sized c.process (omega (arith, tables.counts.processes-most)) tables.counts.edges_most))
+  opens_it h = inr (inl (_, refl, opens pl st sized c.process (omega (arith, tables.counts.processes_most)) tables.counts.edges_most))
 
   looks_at_it : c.process < pl.processes → c.edge < pl.edges → Either (do_look pl st c.process c.edge)
   unfolding Either Changed do_look
   looks_at_it h l =
-      let k : c.process < 64 = omega (arith, tables.counts.processes-most) in
+      let k : c.process < 64 = omega (arith, tables.counts.processes_most) in
       let few : c.edge < 512 = omega (arith, tables.counts.edges_most) in
       if_either Either (edge_found pl st c.edge) _ _ (λ t. inr (inr (inl (_, refl, finds_changes pl st sized c.process k c.edge few))))
       (λ t. inr (inr (inr (inl (_, refl, waits_changes pl st sized c.process k)))))
@@ -61,9 +61,9 @@ module _ (pl : Plan) (shape : InShape pl) (st : State) (ok : StateInShape pl st)
   unfolding Either Changed do_fire next_node node_at
   fires_it h =
       let v = next_node pl st c.process in
-      let known : v < pl.nodes = node_at_lt pl tables c.process (at st.positions c.process) h (ok.position-lt c.process h) in
-      let counted : at pl.counter v < 64 = omega (arith, tables.counter-lt v known, tables.counts.counters-most) in
-      inr (inr (inr (inr (v, refl, refl, fires pl st sized c.process (omega (arith, tables.counts.processes-most)) v counted))))
+      let known : v < pl.nodes = node_at_lt pl tables c.process (at st.positions c.process) h (ok.position_lt c.process h) in
+      let counted : at pl.counter v < 64 = omega (arith, tables.counter_lt v known, tables.counts.counters_most) in
+      inr (inr (inr (inr (v, refl, refl, fires pl st sized c.process (omega (arith, tables.counts.processes_most)) v counted))))
 
   -- by its code
   in_shape : Either (step_in_shape pl st c.code c.process c.edge)

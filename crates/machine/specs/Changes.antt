@@ -68,7 +68,7 @@ module _ (pl : Plan) (st : State) (sized : Sized st) (p : ℕ) (h : p < 64) wher
         positions = refl;
         counters = refl;
         turn = refl;
-        is_open = get_or-set_same st.opened p 1 0 (omega (arith, sized.opened-length));
+        is_open = get_or-set_same st.opened p 1 0 (omega (arith, sized.opened_length));
         opened_others = λ r d. get_or-set_other st.opened p r 1 0 d;
         marks = λ e l. open_mark pl st sized p few e h l;
         marks_past = λ e l k. open_mark_other pl st sized p few p e l (λ q. k);
@@ -97,10 +97,10 @@ module _ (pl : Plan) (st : State) (sized : Sized st) (p : ℕ) (h : p < 64) wher
       record {
         marks = refl;
         turn = refl;
-        moves = get_or-set_same st.positions p (next_position (at st.positions p) (at pl.lengths p)) 0 (omega (arith, sized.positions-length));
+        moves = get_or-set_same st.positions p (next_position (at st.positions p) (at pl.lengths p)) 0 (omega (arith, sized.positions_length));
         positions_others = λ r d. get_or-set_other st.positions p r _ 0 d;
-        is_closed = get_or-set_same st.opened p 0 0 (omega (arith, sized.opened-length));
+        is_closed = get_or-set_same st.opened p 0 0 (omega (arith, sized.opened_length));
         opened_others = λ r d. get_or-set_other st.opened p r 0 0 d;
-        adds = get_or-set_same st.counters (at pl.counter v) _ 0 (omega (arith, sized.counters-length));
+        adds = get_or-set_same st.counters (at pl.counter v) _ 0 (omega (arith, sized.counters_length));
         counters_others = λ c d. get_or-set_other st.counters (at pl.counter v) c _ 0 d;
       }

@@ -105,7 +105,7 @@ module _ (pl : Plan) (shape : InShape pl) (st : State) (ok : StateInShape pl st)
   module _ (c : Call) (code : c.code ≡ 2) where
     -- an open flag is 1
     flag_is : (p : ℕ) → p < pl.processes → at st.opened p ≢ 0 → at st.opened p ≡ 1
-    flag_is p h o = let f = ok.opened-flag p h in omega arith
+    flag_is p h o = let f = ok.opened_flag p h in omega arith
 
     -- the node that an answer fired names, and what it says of the process
     pub fire_means : (v : ℕ) → (turn pl st c).reply ≡ Fired v

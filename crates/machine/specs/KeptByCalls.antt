@@ -46,7 +46,7 @@ fits_kept pl st st' p e same is_open stands f =
       means = λ d.
           let m = f.means (λ z. d (same ∙ z)) in
           record {
-            process_lt = m.process-lt;
+            process_lt = m.process_lt;
             is_open = omega (arith, m.is_open);
             next = m.next ∙ ap (node_at pl p) (sym stands);
             synchronising = m.synchronising;
@@ -128,7 +128,7 @@ module _ (pl : Plan) (shape : InShape pl) where
                   let t = (to_see_exactly pl shape (next_node pl st p) e m).0 (one_if_some (to_see pl (next_node pl st p) e) (λ y. d (new ∙ y))) in
                   record {
                     process_lt = h;
-                    is_open = omega (arith, get_or-set_same st.opened p 1 0 (omega (arith, sized.opened-length, tables.counts)));
+                    is_open = omega (arith, get_or-set_same st.opened p 1 0 (omega (arith, sized.opened_length, tables.counts)));
                     next = t.0;
                     synchronising = t.1;
                   };
@@ -142,7 +142,7 @@ module _ (pl : Plan) (shape : InShape pl) where
           parts = record {
             positions = parts.positions;
             opened = λ r l.
-                in_range_set (λ r. 2) pl.processes st.opened p 1 (omega (arith, sized.opened-length, tables.counts)) h (omega arith) r (parts.opened r l);
+                in_range_set (λ r. 2) pl.processes st.opened p 1 (omega (arith, sized.opened_length, tables.counts)) h (omega arith) r (parts.opened r l);
             counters = parts.counters;
             marks = open_fits p h;
           };
@@ -197,12 +197,12 @@ module _ (pl : Plan) (shape : InShape pl) where
         record {
           parts = record {
             positions = λ r l.
-                in_range_set (at pl.lengths) pl.processes st.positions p _ (omega (arith, sized.positions-length, tables.counts)) h moved r
+                in_range_set (at pl.lengths) pl.processes st.positions p _ (omega (arith, sized.positions_length, tables.counts)) h moved r
                 (parts.positions r l);
             opened = λ r l.
-                in_range_set (λ r. 2) pl.processes st.opened p 0 (omega (arith, sized.opened-length, tables.counts)) h (omega arith) r (parts.opened r l);
+                in_range_set (λ r. 2) pl.processes st.opened p 0 (omega (arith, sized.opened_length, tables.counts)) h (omega arith) r (parts.opened r l);
             counters = λ c l.
-                in_range_set (λ c. pl.modulus) pl.counters st.counters _ _ (omega (arith, sized.counters-length, own, tables.counts)) own
+                in_range_set (λ c. pl.modulus) pl.counters st.counters _ _ (omega (arith, sized.counters_length, own, tables.counts)) own
                 (mod-lt _ (omega (arith, tables.counts))) c (parts.counters c l);
             marks = λ r l e k.
                 elim (ℕ_discrete r p) [
@@ -218,7 +218,7 @@ module _ (pl : Plan) (shape : InShape pl) where
         stands = (parts.positions p (omega (arith, tables.counts))).known h
 
         own : at pl.counter (next_node pl st p) < pl.counters
-        own = tables.counter-lt (next_node pl st p) (next_node_lt st parts p h)
+        own = tables.counter_lt (next_node pl st p) (next_node_lt st parts p h)
 
         moved : next_position (at st.positions p) (at pl.lengths p) < at pl.lengths p
         moved = next_position_lt _ _ stands

@@ -24,7 +24,7 @@ module _ (pl : Plan) (st : State) (sized : Sized st) (p : ℕ) where
     -- the edges to see are marked
     pub open_mark : (e : ℕ) → p < 64 → e < pl.edges → mark (opened_state pl st p) p e ≡ one_if (to_see pl (next_node pl st p) e)
     unfolding opened_state
-    open_mark e h k = stored_at (λ e. one_if (to_see pl (next_node pl st p) e)) (512 * p) st.marks pl.edges e k (omega (arith, sized.marks-length))
+    open_mark e h k = stored_at (λ e. one_if (to_see pl (next_node pl st p) e)) (512 * p) st.marks pl.edges e k (omega (arith, sized.marks_length))
 
     -- other marks stay
     pub open_mark_other : (r e : ℕ) → e < 512 → (r ≡ p → pl.edges ≤ e) → mark (opened_state pl st p) r e ≡ mark st r e
@@ -36,7 +36,7 @@ module _ (pl : Plan) (st : State) (sized : Sized st) (p : ℕ) where
   -- a found edge's mark goes
   pub found_mark : (e : ℕ) → p < 64 → e < 512 → mark (found_state st p e) p e ≡ 0
   unfolding found_state with_marks
-  found_mark e h k = get_or-set_same st.marks (spot p e) 0 0 (omega (arith, sized.marks-length, spot_lt p e h k))
+  found_mark e h k = get_or-set_same st.marks (spot p e) 0 0 (omega (arith, sized.marks_length, spot_lt p e h k))
 
   -- other marks stay
   pub found_mark_other : (e r f : ℕ) → e < 512 → f < 512 → (r ≡ p → f ≢ e) → mark (found_state st p e) r f ≡ mark st r f

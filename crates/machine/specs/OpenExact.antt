@@ -70,7 +70,7 @@ module _ (pl : Plan) (shape : InShape pl) (st : State) (kept : Kept pl st) (p : 
   -- its flag is 1
   pub is_open : at (opened_state pl st p).opened p ≡ 1
   unfolding opened_state
-  is_open = get_or-set_same st.opened p 1 0 (omega (arith, kept.sized.opened-length, tables.counts))
+  is_open = get_or-set_same st.opened p 1 0 (omega (arith, kept.sized.opened_length, tables.counts))
 
   -- the marks are those
   open_marks : (e : ℕ) → e < 512 → (mark (opened_state pl st p) p e ≡ 1) ↔ ((at pl.destination e ≡ next_node pl st p) × Synchronising pl e)

@@ -44,24 +44,24 @@ parts_exactly pl counts st = (
     counter_lt = λ c h. (r.counters c (omega arith)).known h;
     counter_past = λ c l h. (r.counters c l).past h;
     mark_flag = λ p e l h. (r.marks p l e h).flag;
-    mark_process = λ p e l h d. ((r.marks p l e h).means d).process-lt;
-    mark_open = λ p e l h d. let m = (r.marks p l e h).means d in let t = (r.opened p l).known m.process-lt in omega (arith, m.is_open);
+    mark_process = λ p e l h d. ((r.marks p l e h).means d).process_lt;
+    mark_open = λ p e l h d. let m = (r.marks p l e h).means d in let t = (r.opened p l).known m.process_lt in omega (arith, m.is_open);
     mark_synchronising = λ p e l h d. ((r.marks p l e h).means d).synchronising;
     mark_next = λ p e l h d. ((r.marks p l e h).means d).next;
   },
   λ s. record {
-    positions = λ p l. record { known = s.position-lt p; past = s.position_past p l };
-    opened = λ p l. record { known = λ h. let t = s.opened-flag p h in omega arith; past = s.opened-past p l };
-    counters = λ c l. record { known = s.counter-lt c; past = s.counter-past c l };
+    positions = λ p l. record { known = s.position_lt p; past = s.position_past p l };
+    opened = λ p l. record { known = λ h. let t = s.opened_flag p h in omega arith; past = s.opened_past p l };
+    counters = λ c l. record { known = s.counter_lt c; past = s.counter_past c l };
     marks = λ p l e h.
         record {
-          flag = s.mark-flag p e l h;
+          flag = s.mark_flag p e l h;
           means = λ d.
               record {
-                process_lt = s.mark-process p e l h d;
-                is_open = omega (arith, s.mark-open p e l h d);
-                next = s.mark-next p e l h d;
-                synchronising = s.mark-synchronising p e l h d;
+                process_lt = s.mark_process p e l h d;
+                is_open = omega (arith, s.mark_open p e l h d);
+                next = s.mark_next p e l h d;
+                synchronising = s.mark_synchronising p e l h d;
               };
         };
   },

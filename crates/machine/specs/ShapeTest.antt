@@ -75,7 +75,7 @@ module _ (pl : Plan) (shape : InShape pl) where
     unfolding mark_allowed
     means_allowed p e m =
         if_true (both (nat_lt p pl.processes) (nat_lt 0 (at st.opened p))) _ 0
-        (both_intro (nat_lt p pl.processes) (nat_lt 0 (at st.opened p)) (lt-ltb p pl.processes m.process-lt) (lt-ltb 0 (at st.opened p) m.is_open))
+        (both_intro (nat_lt p pl.processes) (nat_lt 0 (at st.opened p)) (lt-ltb p pl.processes m.process_lt) (lt-ltb 0 (at st.opened p) m.is_open))
         ∙ if_true (nat_lt e pl.edges) _ 0 (lt-ltb e pl.edges m.synchronising.known)
         ∙ one_if_true (to_see pl (next_node pl st p) e) ((to_see_exactly (next_node pl st p) e m.synchronising.known).1 (m.next, m.synchronising))
 

@@ -18,10 +18,10 @@ module _ (pl : Plan) (st : State) (sized : Sized st) where
   unfolding opened_state
   open_sized p =
       record {
-        positions_length = sized.positions-length;
-        opened_length = length-set st.opened p 1 ∙ sized.opened-length;
-        marks_length = stored_length (λ e. one_if (to_see pl (next_node pl st p) e)) (512 * p) st.marks pl.edges ∙ sized.marks-length;
-        counters_length = sized.counters-length;
+        positions_length = sized.positions_length;
+        opened_length = length-set st.opened p 1 ∙ sized.opened_length;
+        marks_length = stored_length (λ e. one_if (to_see pl (next_node pl st p) e)) (512 * p) st.marks pl.edges ∙ sized.marks_length;
+        counters_length = sized.counters_length;
       }
 
   -- a look that finds
@@ -29,10 +29,10 @@ module _ (pl : Plan) (st : State) (sized : Sized st) where
   unfolding found_state with_marks
   found_sized p e =
       record {
-        positions_length = sized.positions-length;
-        opened_length = sized.opened-length;
-        marks_length = length-set st.marks (spot p e) 0 ∙ sized.marks-length;
-        counters_length = sized.counters-length;
+        positions_length = sized.positions_length;
+        opened_length = sized.opened_length;
+        marks_length = length-set st.marks (spot p e) 0 ∙ sized.marks_length;
+        counters_length = sized.counters_length;
       }
 
   -- a look that waits
@@ -40,10 +40,10 @@ module _ (pl : Plan) (st : State) (sized : Sized st) where
   unfolding with_marks
   wait_sized =
       record {
-        positions_length = sized.positions-length;
-        opened_length = sized.opened-length;
-        marks_length = sized.marks-length;
-        counters_length = sized.counters-length;
+        positions_length = sized.positions_length;
+        opened_length = sized.opened_length;
+        marks_length = sized.marks_length;
+        counters_length = sized.counters_length;
       }
 
   -- a fire
@@ -51,8 +51,8 @@ module _ (pl : Plan) (st : State) (sized : Sized st) where
   unfolding fired_state raised_in
   fire_sized p v =
       record {
-        positions_length = length-set st.positions p _ ∙ sized.positions-length;
-        opened_length = length-set st.opened p 0 ∙ sized.opened-length;
-        marks_length = sized.marks-length;
-        counters_length = length-set st.counters (at pl.counter v) _ ∙ sized.counters-length;
+        positions_length = length-set st.positions p _ ∙ sized.positions_length;
+        opened_length = length-set st.opened p 0 ∙ sized.opened_length;
+        marks_length = sized.marks_length;
+        counters_length = length-set st.counters (at pl.counter v) _ ∙ sized.counters_length;
       }

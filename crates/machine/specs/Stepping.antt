@@ -47,11 +47,11 @@ others_go position length d = if_no (suc position == length) _ _ _ (ne_eqb (suc 
 module _ (pl : Plan) (shape : InShape pl) (e n tokens x y : ℕ) where
   sum_finds : finds pl.q n tokens x y ≡ finds (edge_sum pl e) n tokens x y
   unfolding edge_sum
-  sum_finds = ap (λ s. finds s n tokens x y) shape.q-is
+  sum_finds = ap (λ s. finds s n tokens x y) shape.q_is
 
   sum_reads : reading_printed pl.q n tokens x y ≡ reading_printed (edge_sum pl e) n tokens x y
   unfolding edge_sum
-  sum_reads = ap (λ s. reading_printed s n tokens x y) shape.q-is
+  sum_reads = ap (λ s. reading_printed s n tokens x y) shape.q_is
 
 -- ---- a call, by its number and its code
 module _ (st : State) (n : ℕ) where

@@ -72,7 +72,7 @@ begin_refused pl n = if_false (plan_fits pl) _ _ (not_true _ (λ t. n ((fits_exa
 
 -- a fresh state is in shape
 pub fresh_in_shape : (pl : Plan) → InShape pl → StateInShape pl fresh × Sized fresh
-fresh_in_shape pl shape = (kept.kept-exactly pl shape fresh).0 (fresh_kept pl shape)
+fresh_in_shape pl shape = (kept.kept_exactly pl shape fresh).0 (fresh_kept pl shape)
 
 -- every call on a plan and a state in shape changes nothing, or what 01 says and nothing else, in every field and at every index
 pub call_changes : (pl : Plan) → InShape pl → (st : State) → StateInShape pl st → Sized st → (c : Call) → Unchanged st (turn pl st c) ⊎ Changed pl st c (turn pl st c)
@@ -82,16 +82,16 @@ call_changes = accepted.changes
 pub shape_kept : (pl : Plan) (shape : InShape pl) (st : State) → StateInShape pl st → Sized st → (c : Call)
     → StateInShape pl (turn pl st c).state × Sized (turn pl st c).state
 unfolding turn
-shape_kept pl shape st s z c = kept.shape-kept-by-step pl shape st s z c.code c.process c.edge
+shape_kept pl shape st s z c = kept.shape_kept_by_step pl shape st s z c.code c.process c.edge
 
 -- "its table entries past the counts are neither tested nor used": plan values that agree within their counts begin alike, and get the same
 -- answer and the same state from every call, and the same reading
 pub begin_agrees : (a b : Plan) → Agree a b → begin_run a ≡ begin_run b
-begin_agrees = agreeing.begin-agrees
+begin_agrees = agreeing.begin_agrees
 
 pub call_agrees : (a b : Plan) → Agree a b → (st : State) (c : Call) → turn a st c ≡ turn b st c
 unfolding turn
-call_agrees a b s st c = agreeing.step-agrees a b s st c.code c.process c.edge
+call_agrees a b s st c = agreeing.step_agrees a b s st c.code c.process c.edge
 
 pub reading_agrees : (a b : Plan) → Agree a b → (st : State) (e : ℕ) → reading_call a st e ≡ reading_call b st e
-reading_agrees = agreeing.reading-agrees
+reading_agrees = agreeing.reading_agrees

@@ -26,7 +26,7 @@ module _ (G : Graph) where
   pub stops_below : Shaped G → (es : List ℕ) (m n : ℕ) → Route G m es n → Below G.nodes (stops es)
   unfolding stops Route Below
   stops_below w [] m n r = tt
-  stops_below w (e ∷ es) m n r = (w.destination-lt e r.0, stops_below w es (G.destination e) n r.2)
+  stops_below w (e ∷ es) m n r = (w.destination_lt e r.0, stops_below w es (G.destination e) n r.2)
 
   -- a route from m to n parted at its first visit of v
   record Parted (m v n : ℕ) (es : List ℕ) : Type 0 where

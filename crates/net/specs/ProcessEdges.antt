@@ -32,7 +32,7 @@ module _ (G : Graph) (S : Seats G) where
       p = S.home v
 
       hp : p < S.processes
-      hp = S.home-lt v h
+      hp = S.home_lt v h
 
       -- an edge from the seat before v's
       from : (i t : ℕ) → i < S.length p → Edge G (S.node p i) v t
@@ -41,9 +41,9 @@ module _ (G : Graph) (S : Seats G) where
         e,
         record {
           edge_lt = k;
-          source_lt = subst (◌< G.nodes) (sym s) (S.node-lt p hp i l);
+          source_lt = subst (◌< G.nodes) (sym s) (S.node_lt p hp i l);
           into = d;
-          inside = ap S.home s ∙ S.home-node p hp i l;
+          inside = ap S.home s ∙ S.home_node p hp i l;
           place =
               elim c [
                 | inl z ↦ inl (ap suc seat ∙ z.0, q ∙ z.1)
@@ -53,27 +53,27 @@ module _ (G : Graph) (S : Seats G) where
       )
         where
           seat : S.seat (G.source e) ≡ i
-          seat = ap S.seat s ∙ S.seat-node p hp i l
+          seat = ap S.seat s ∙ S.seat_node p hp i l
 
       -- an edge to the node at v's seat is one to v
       arrive : (i t j : ℕ) → i < S.length p → Edge G (S.node p i) (S.node (S.home (S.node p i)) j) t → j ≡ S.seat v → Edge G (S.node p i) v t
-      arrive i t j l (e, k, s, d, q) z = (e, k, s, d ∙ ap₂ S.node (S.home-node p hp i l) z ∙ S.node_of v h, q)
+      arrive i t j l (e, k, s, d, q) z = (e, k, s, d ∙ ap₂ S.node (S.home_node p hp i l) z ∙ S.node_of v h, q)
 
       -- the length of its process
       long : (i : ℕ) → i < S.length p → S.length (S.home (S.node p i)) ≡ S.length p
-      long i l = ap S.length (S.home-node p hp i l)
+      long i l = ap S.length (S.home_node p hp i l)
 
       by_seat : (j : ℕ) → S.seat v ≡ j → (e : ℕ) × ProcessEdge v e
       by_seat zero q =
-          let fits = S.seat-lt v h in
+          let fits = S.seat_lt v h in
           let i : ℕ = S.length p - 1 in
           let l : i < S.length p = omega arith in
-          let e = S.closing (S.node p i) (S.node-lt p hp i l) (omega (arith, S.seat-node p hp i l, long i l)) in
+          let e = S.closing (S.node p i) (S.node_lt p hp i l) (omega (arith, S.seat_node p hp i l, long i l)) in
           from i 1 l (arrive i 1 0 l e (sym q)) (inr (omega arith, q, refl))
       by_seat (suc i) q =
-          let l : i < S.length p = omega (arith, S.seat-lt v h) in
-          let at = S.seat-node p hp i l in
-          let e = S.on (S.node p i) (S.node-lt p hp i l) (omega (arith, S.seat-lt v h, long i l)) in
+          let l : i < S.length p = omega (arith, S.seat_lt v h) in
+          let at = S.seat_node p hp i l in
+          let e = S.on (S.node p i) (S.node_lt p hp i l) (omega (arith, S.seat_lt v h, long i l)) in
           from i 0 l (arrive i 0 (suc (S.seat (S.node p i))) l e (ap suc at ∙ sym q)) (inl (sym q, refl))
 
   -- from a seat to one d further of the same process
@@ -83,13 +83,13 @@ module _ (G : Graph) (S : Seats G) where
   ride_by (suc d) v h l =
       let t = ride_by d v h (omega arith) in
       let p = S.home v in
-      let hp = S.home-lt v h in
+      let hp = S.home_lt v h in
       let j : ℕ = S.seat v + d in
       let u = S.node p j in
       let k : j < S.length p = omega arith in
-      let home_u = S.home-node p hp j k in
-      let seat_u = S.seat-node p hp j k in
-      let e = S.on u (S.node-lt p hp j k) (omega (arith, ap S.length home_u)) in (
+      let home_u = S.home_node p hp j k in
+      let seat_u = S.seat_node p hp j k in
+      let e = S.on u (S.node_lt p hp j k) (omega (arith, ap S.length home_u)) in (
         t.0 ++ (e.0 ∷ []),
         route_append G t.0 (e.0 ∷ []) v u (S.node p (S.seat v + suc d)) t.1
             (e.1, e.2, e.3 ∙ ap₂ S.node home_u (let q : suc (S.seat u) ≡ S.seat v + suc d = omega arith in q)),
@@ -101,7 +101,7 @@ module _ (G : Graph) (S : Seats G) where
   ride u v hu hv p l =
       let q : S.seat u + (S.seat v - S.seat u) ≡ S.seat v = omega arith in
       subst (TokenFree G G.tokens u) (ap₂ S.node p q ∙ S.node_of v hv)
-      (ride_by (S.seat v - S.seat u) u hu (omega (arith, S.seat-lt v hv, ap S.length p)))
+      (ride_by (S.seat v - S.seat u) u hu (omega (arith, S.seat_lt v hv, ap S.length p)))
 
   -- where every cycle holds a token, so does an edge at the start that leads back to an earlier seat of its process, or to its own
   pub chord_tokens : Shaped G → EveryCycleHolds G G.tokens → (e : ℕ) → e < G.edges → Inner G S e
@@ -110,7 +110,7 @@ module _ (G : Graph) (S : Seats G) where
   chord_tokens shaped holds e h p l =
       let m = G.source e in
       let n = G.destination e in
-      let t = ride n m (shaped.destination-lt e h) (shaped.source-lt e h) (sym p) l in
+      let t = ride n m (shaped.destination_lt e h) (shaped.source_lt e h) (sym p) l in
       omega (
         arith,
         holds n (t.0 ++ (e ∷ [])) (route_append G t.0 (e ∷ []) n m n t.1 (h, refl, refl), omega (arith, length-append t.0 (e ∷ []))),
@@ -122,13 +122,13 @@ module _ (G : Graph) (S : Seats G) where
     -- the process edge into v holds one token where v is next, and otherwise none
     pub process_edge_holds : (v e : ℕ) → v < G.nodes → ProcessEdge v e → after G G.tokens s e ≡ one_if_same (S.seat v) (position (S.home v))
     process_edge_holds v e h k =
-        let now = tokens_now G G.tokens s l e k.edge-lt in
+        let now = tokens_now G G.tokens s l e k.edge_lt in
         let end = ap (λ x. firings x s) k.into in
-        let fired_u = standing.fired (G.source e) k.source-lt in
+        let fired_u = standing.fired (G.source e) k.source_lt in
         let fired_v = standing.fired v h in
         let same_rounds = ap rounds k.inside in
         let same_position = ap position k.inside in
-        let fits = standing.fits (S.home v) (S.home-lt v h) in
+        let fits = standing.fits (S.home v) (S.home_lt v h) in
         elim (same_or_not (S.seat v) (position (S.home v))) [
           | inl c ↦ elim k.place [ inl z ↦ omega arith | inr z ↦ omega arith ]
           | inr c ↦ elim k.place [ inl z ↦ omega arith | inr z ↦ omega arith ]
@@ -141,7 +141,7 @@ module _ (G : Graph) (S : Seats G) where
         let t = process_edge v h in
         elim (same_or_not (S.seat v) (position (S.home v))) [
           | inl c ↦ c.0
-          | inr c ↦ absurd (omega (arith, f t.0 t.1.edge-lt t.1.into, process_edge_holds v t.0 h t.1))
+          | inr c ↦ absurd (omega (arith, f t.0 t.1.edge_lt t.1.into, process_edge_holds v t.0 h t.1))
         ]
 
     -- an edge inside a process holds a token where its end is next
@@ -151,8 +151,8 @@ module _ (G : Graph) (S : Seats G) where
         let m = G.source e in
         let n = G.destination e in
         let now = tokens_now G G.tokens s l e h in
-        let fired_m = standing.fired m (shaped.source-lt e h) in
-        let fired_n = standing.fired n (shaped.destination-lt e h) in
+        let fired_m = standing.fired m (shaped.source_lt e h) in
+        let fired_n = standing.fired n (shaped.destination_lt e h) in
         let same_rounds = ap rounds p in
         let same_position = ap position p in
         elim (dec_lt (S.seat m) (S.seat n)) [

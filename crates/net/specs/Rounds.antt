@@ -44,8 +44,8 @@ module _ (G : Graph) (S : Seats G) where
     where
       at_seat : (j : ℕ) → j < S.length p → firings (S.node p j) s ≡ rounds p + before j (position p)
       at_seat j l =
-          let home = S.home-node p h j l in
-          omega (arith, a.fired (S.node p j) (S.node-lt p h j l), S.seat-node p h j l, ap rounds home, ap position home)
+          let home = S.home_node p h j l in
+          omega (arith, a.fired (S.node p j) (S.node_lt p h j l), S.seat_node p h j l, ap rounds home, ap position home)
 
   -- at the start no process has moved
   pub standing_start : ((p : ℕ) → p < S.processes → 0 < S.length p) → Standing G S (λ p. 0) (λ p. 0) []
@@ -83,7 +83,7 @@ module _ (G : Graph) (S : Seats G) where
   standing_moved v h rounds position rounds' position' s next m a = record { fits = fits'; fired = fired' }
     where
       fits_v : S.seat v < S.length (S.home v)
-      fits_v = S.seat-lt v h
+      fits_v = S.seat_lt v h
 
       fits' : (p : ℕ) → p < S.processes → position' p < S.length p
       fits' p hp =
@@ -124,7 +124,7 @@ module _ (G : Graph) (S : Seats G) where
                 let new_rounds = ap rounds' p in
                 let new_position = ap position' p in
                 let same_length = ap S.length p in
-                let fits_u = S.seat-lt u hu in
+                let fits_u = S.seat_lt u hu in
                 elim (ℕ_discrete (suc (S.seat v)) (S.length (S.home v))) [
                   | yes z ↦ let goes = m.round z in elim (alone u hu p) [ inl q ↦ omega arith | inr q ↦ omega arith ]
                   | no z ↦ let goes = m.onward (omega (arith, fits_v)) in elim (alone u hu p) [ inl q ↦ omega arith | inr q ↦ omega arith ]

@@ -35,7 +35,7 @@ module _ (G : Graph) (processes : ℕ) (length : ℕ → ℕ) (node : ℕ → �
   pub alone : (p : ℕ) → p < processes → (j : ℕ) → j < length p → (home_of (node p j) ≡ p) × (seat_of (node p j) ≡ j)
   alone p h j l =
       let a : Seated (node p j) (home_of (node p j)) (seat_of (node p j)) = seated (node p j) (P.inside p h j l) in
-      P.apart (home_of (node p j)) p a.process-lt h (seat_of (node p j)) j a.seat-lt l a.there
+      P.apart (home_of (node p j)) p a.process_lt h (seat_of (node p j)) j a.seat_lt l a.there
 
   -- the seats of processes
   unfoldable pub seats_of : Seats G
@@ -46,16 +46,16 @@ module _ (G : Graph) (processes : ℕ) (length : ℕ → ℕ) (node : ℕ → �
         node = node;
         home = home_of;
         seat = seat_of;
-        home_lt = λ v h. (seated v h).process-lt;
-        seat_lt = λ v h. (seated v h).seat-lt;
+        home_lt = λ v h. (seated v h).process_lt;
+        seat_lt = λ v h. (seated v h).seat_lt;
         node_of = λ v h. (seated v h).there;
         node_lt = P.inside;
         home_node = λ p h j l. (alone p h j l).0;
         seat_node = λ p h j l. (alone p h j l).1;
         on = λ v h l.
-            subst (λ u. Edge G u (node (home_of v) (suc (seat_of v))) 0) (seated v h).there (P.on (home_of v) (seated v h).process-lt (seat_of v) l);
+            subst (λ u. Edge G u (node (home_of v) (suc (seat_of v))) 0) (seated v h).there (P.on (home_of v) (seated v h).process_lt (seat_of v) l);
         closing = λ v h l.
-            subst (λ u. Edge G u (node (home_of v) 0) 1) (seated v h).there (P.closing (home_of v) (seated v h).process-lt (seat_of v) l);
+            subst (λ u. Edge G u (node (home_of v) 0) 1) (seated v h).there (P.closing (home_of v) (seated v h).process_lt (seat_of v) l);
       }
 
 module _ (G : Graph) (S : Seats G) where

@@ -130,7 +130,7 @@ module _ (G : Graph) (μ : Marking) (x : ℕ) where
     visit (suc k) y es h r z b s a =
         fire_fed y s h (es, r, z)
         (feed y
-        (λ e i p t. visit k (G.source e) (e ∷ es) (shaped.source-lt e i) (i, refl, subst (λ v. Route G v es x) (sym p) r) (omega arith) (omega arith))
+        (λ e i p t. visit k (G.source e) (e ∷ es) (shaped.source_lt e i) (i, refl, subst (λ v. Route G v es x) (sym p) r) (omega arith) (omega arith))
         G.edges (omega arith) s a)
 
     -- so is x itself

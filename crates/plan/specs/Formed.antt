@@ -87,18 +87,18 @@ module _ (pl : Plan) where
     unfolding Fault6
     none_6 p f =
         ⊎_elim (λ g. omega (arith, t.order_lt p f.0))
-        (λ g. omega (arith, t.order-apart g.0 p (omega (arith, g.1, f.0)) f.0 g.2, g.1)) f.1
+        (λ g. omega (arith, t.order_apart g.0 p (omega (arith, g.1, f.0)) f.0 g.2, g.1)) f.1
 
     pub none_7 : Passes (Fault7 pl)
     unfolding Fault7
-    none_7 p f = ⊎_elim (λ g. omega (arith, t.counter-lt p f.0)) (λ g. omega (arith, t.increment-most p f.0)) f.1
+    none_7 p f = ⊎_elim (λ g. omega (arith, t.counter_lt p f.0)) (λ g. omega (arith, t.increment_most p f.0)) f.1
 
     pub none_8 : Passes (Fault8 pl)
     unfolding Fault8
     none_8 p f =
-        ⊎_elim (λ g. omega (arith, t.source-lt p f.0))
-        (⊎_elim (λ g. omega (arith, t.destination-lt p f.0))
-        (⊎_elim (λ g. omega (arith, t.tokens-most p f.0))
+        ⊎_elim (λ g. omega (arith, t.source_lt p f.0))
+        (⊎_elim (λ g. omega (arith, t.destination_lt p f.0))
+        (⊎_elim (λ g. omega (arith, t.tokens_most p f.0))
         (λ g. g.2 (subst (Above pl g.0) g.1 (t.rising g.0 (omega (arith, g.1, f.0))))))) f.1
 
     -- where Q is counter 0's sum and at least 1 the plan value is in shape
@@ -112,19 +112,19 @@ module _ (pl : Plan) where
   counter_sum_most t c =
       omega (
         arith,
-        t.counts.nodes-most,
-        sum_le_below (share pl.counter pl.increment c) 255 pl.nodes (λ v h. if_le (eqb (at pl.counter v) c) (t.increment-most v h) (omega arith)),
+        t.counts.nodes_most,
+        sum_le_below (share pl.counter pl.increment c) 255 pl.nodes (λ v h. if_le (eqb (at pl.counter v) c) (t.increment_most v h) (omega arith)),
       )
 
   pub formed : InShape pl → Formed pl
   formed s =
-      let t = tabled s.passes-3 s.passes-5 s.passes-6 s.passes-7 s.passes-8 in
-      record { tables = t; q_is = s.q-is; q_some = s.q-some; q_most = omega (arith, s.q-is, counter_sum_most t 0) }
+      let t = tabled s.passes_3 s.passes_5 s.passes_6 s.passes_7 s.passes_8 in
+      record { tables = t; q_is = s.q_is; q_some = s.q_some; q_most = omega (arith, s.q_is, counter_sum_most t 0) }
 
   -- both ends of every edge are nodes
   pub shaped : Tabled pl → Shaped (graph_of pl)
   unfolding graph_of graph_of_tables
-  shaped t = record { source_lt = t.source-lt; destination_lt = t.destination-lt }
+  shaped t = record { source_lt = t.source_lt; destination_lt = t.destination_lt }
 
 -- a test that refuses did not: it was false, and what follows holds
 pub past : (t x : Bool) → if t false x ≡ true → (t ≡ false) × (x ≡ true)
@@ -166,12 +166,12 @@ fits_exactly pl = (
         q_some = leb-true _ _ q.1;
       },
   λ s.
-      let p5 = (passes_5 pl).1 s.passes-5 in
-      past_back _ _ ((passes_3 pl).1 s.passes-3)
+      let p5 = (passes_5 pl).1 s.passes_5 in
+      past_back _ _ ((passes_3 pl).1 s.passes_3)
       (past_back _ _ (le-ltb _ _ p5.0)
       (both_intro _ _ (eq-eqb _ _ p5.1)
-      (past_back _ _ (searched_back (test_6 pl) s.passes-6)
-      (past_back _ _ (searched_back (test_7 pl) s.passes-7)
-      (past_back _ _ (searched_back (test_8 pl) s.passes-8)
-      (both_intro _ _ (eq-eqb _ _ (sym s.q-is)) (le-leb _ _ s.q-some))))))),
+      (past_back _ _ (searched_back (test_6 pl) s.passes_6)
+      (past_back _ _ (searched_back (test_7 pl) s.passes_7)
+      (past_back _ _ (searched_back (test_8 pl) s.passes_8)
+      (both_intro _ _ (eq-eqb _ _ (sym s.q_is)) (le-leb _ _ s.q_some))))))),
 )

@@ -86,11 +86,11 @@ module _ (pl : Plan) where
   pub counts_pass : CountsFit pl → counts_test pl ≡ false
   unfolding bad_counts
   counts_pass f =
-      either_none _ _ (not_outside 1 64 pl.nodes f.nodes-some f.nodes-most)
-      (either_none _ _ (not_outside 1 64 pl.processes f.processes-some f.processes-most)
+      either_none _ _ (not_outside 1 64 pl.nodes f.nodes_some f.nodes_most)
+      (either_none _ _ (not_outside 1 64 pl.processes f.processes_some f.processes_most)
       (either_none _ _ (not_outside 1 512 pl.edges f.edges_some f.edges_most)
-      (either_none _ _ (not_outside 1 64 pl.counters f.counters-some f.counters-most)
-      (not_outside 1 2000000000 pl.modulus f.modulus-some f.modulus-most))))
+      (either_none _ _ (not_outside 1 64 pl.counters f.counters_some f.counters_most)
+      (not_outside 1 2000000000 pl.modulus f.modulus_some f.modulus_most))))
 
   pub test_3 : (place : ℕ) → ((place ≡ 0) × (counts_test pl ≡ true)) ↔ Fault3 pl place
   unfolding Fault3

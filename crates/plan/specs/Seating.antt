@@ -63,7 +63,7 @@ module _ (order : List ℕ) (nodes : ℕ) (once : Once (at order) nodes) where
 
 -- so it is in a plan whose tests pass
 pub order_once : (pl : Plan) → Tabled pl → Once (at pl.order) pl.nodes
-order_once pl t = record { small = t.order_lt; apart = t.order-apart }
+order_once pl t = record { small = t.order_lt; apart = t.order_apart }
 
 module _ (pl : Plan) (t : Tabled pl) where
   -- the position of a node, and the node of a position
@@ -74,7 +74,7 @@ module _ (pl : Plan) (t : Tabled pl) where
   node_there = placed_there pl.order pl.nodes (order_once pl t)
 
   pub order_position_is : (i : ℕ) → i < pl.nodes → order_position pl.order pl.nodes (at pl.order i) ≡ i
-  order_position_is i h = let l = t.order_lt i h in t.order-apart _ i (order_position_lt (at pl.order i) l) h (node_there (at pl.order i) l)
+  order_position_is i h = let l = t.order_lt i h in t.order_apart _ i (order_position_lt (at pl.order i) l) h (node_there (at pl.order i) l)
 
   -- a seat is a position
   pub within : (p j : ℕ) → p < pl.processes → j < at pl.lengths p → base pl.lengths p + j < pl.nodes
@@ -103,17 +103,17 @@ module _ (pl : Plan) (t : Tabled pl) where
   unfolding home home_of seat node_at base sum
   sits_unique {v} {p} {j} s =
       let i : ℕ = base pl.lengths p + j in
-      let at_i : order_position pl.order pl.nodes v ≡ i = ap (order_position pl.order pl.nodes) (sym s.here) ∙ order_position_is i (within p j s.process-lt s.seat-lt) in
+      let at_i : order_position pl.order pl.nodes v ≡ i = ap (order_position pl.order pl.nodes) (sym s.here) ∙ order_position_is i (within p j s.process_lt s.seat_lt) in
       let at_p : home pl v ≡ p =
       ap (process_at pl.lengths pl.processes) at_i
-      ∙ process_at_is pl.lengths pl.processes i p s.process-lt (omega arith) (omega (arith, s.seat-lt)) in
+      ∙ process_at_is pl.lengths pl.processes i p s.process_lt (omega arith) (omega (arith, s.seat_lt)) in
       (at_p, omega (arith, at_i, ap (base pl.lengths) at_p))
 
   pub home_lt : (v : ℕ) → v < pl.nodes → home pl v < pl.processes
-  home_lt v h = (sits v h).process-lt
+  home_lt v h = (sits v h).process_lt
 
   pub seat_lt : (v : ℕ) → v < pl.nodes → seat pl v < at pl.lengths (home pl v)
-  seat_lt v h = (sits v h).seat-lt
+  seat_lt v h = (sits v h).seat_lt
 
   -- the test of an edge says whether its ends are in different processes
   pub synchronises_exactly : (e : ℕ) → e < pl.edges → (synchronises pl e ≡ true) ↔ Synchronising pl e
@@ -124,13 +124,13 @@ module _ (pl : Plan) (t : Tabled pl) where
           known = h;
           process_of_source = home pl (at pl.source e);
           process_of_destination = home pl (at pl.destination e);
-          source_in = (seat pl (at pl.source e), sits (at pl.source e) (t.source-lt e h));
-          destination_in = (seat pl (at pl.destination e), sits (at pl.destination e) (t.destination-lt e h));
+          source_in = (seat pl (at pl.source e), sits (at pl.source e) (t.source_lt e h));
+          destination_in = (seat pl (at pl.destination e), sits (at pl.destination e) (t.destination_lt e h));
           differ = eqb-false _ _ (past _ true q).0;
         },
     λ s.
         if_false _ false true (ne_eqb _ _
-        (λ q. s.differ (sym (sits_unique s.source_in.1).0 ∙ q ∙ (sits_unique s.destination-in.1).0))),
+        (λ q. s.differ (sym (sits_unique s.source_in.1).0 ∙ q ∙ (sits_unique s.destination_in.1).0))),
   )
 
   -- so does the test over the table of the nodes' processes
@@ -140,7 +140,7 @@ module _ (pl : Plan) (t : Tabled pl) where
 
   pub different_is : (e : ℕ) → e < pl.edges → different (home_table pl) (at pl.source e) (at pl.destination e) ≡ synchronises pl e
   unfolding different synchronises
-  different_is e h = rw (home_table_at (at pl.source e) (t.source-lt e h), home_table_at (at pl.destination e) (t.destination-lt e h))
+  different_is e h = rw (home_table_at (at pl.source e) (t.source_lt e h), home_table_at (at pl.destination e) (t.destination_lt e h))
 
   -- the plan's processes are disjoint simple cycles that cover all nodes where their edges are there with their tokens
   pub has_processes :
@@ -156,7 +156,7 @@ module _ (pl : Plan) (t : Tabled pl) where
             let a = sits_unique (record { process_lt = h; seat_lt = l; here = e }) in
             let b = sits_unique (record { process_lt = k; seat_lt = m; here = refl }) in
             (sym a.0 ∙ b.0, sym a.1 ∙ b.1);
-        cover = λ v h. let s = sits v h in (home pl v, seat pl v, s.process-lt, s.seat-lt, s.here);
+        cover = λ v h. let s = sits v h in (home pl v, seat pl v, s.process_lt, s.seat_lt, s.here);
         on = on;
         closing = closing;
       }

@@ -50,7 +50,7 @@ fn share_of<'a>(counter: &'a [u16; 64], increment: &'a [u16; 64], c: usize, v: u
     requires { v < 64 }
     ensures { result ≡ share counter.now increment.now c v }
 {
-    if bytes::to_index(counter[v]) == c {
+    if numerals::to_index(counter[v]) == c {
         increment[v]
     } else {
         0

@@ -12,7 +12,7 @@ use Rattle.plan.specs.Tests.{refuse_if}
 use Rattle.judge.specs.Faults.{plan_order}
 use Rattle.judge.specs.Sound.{Upheld}
 use Rattle.judge.specs.Decided.{Decided, decided_from_5, clean_exactly, each_number}
-use Rattle.bytes.specs.LittleEndian.{two_bytes}
+use Rattle.numerals.specs.LittleEndian.{two_bytes}
 use Rattle.image.specs.Image.{tables_of, plan_of}
 use Rattle.image.specs.Header.{good_format, good_offsets}
 use Rattle.reader.specs.Faults.{Fault1, Fault2, Fault4, image_order}
@@ -52,7 +52,7 @@ module _ (s : List ℕ) where
         let l : Layout s = h.0 in
         let n = (clean_exactly (plan_of s)).1 (l.tables, h.1) in (
           (λ p f. omega (arith, f.1, l.header)),
-          ((λ p f. ⊎_elim (λ g. g l.format-one) (λ g. g l.zero) f.1), (n.0, ((λ p f. f.1 l.offsets), n.1))),
+          ((λ p f. ⊎_elim (λ g. g l.format_one) (λ g. g l.zero) f.1), (n.0, ((λ p f. f.1 l.offsets), n.1))),
         ),
   )
 

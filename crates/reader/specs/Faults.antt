@@ -4,7 +4,7 @@ use Rattle.std.specs.Prelude.{◌≡◌, List, ◌∷◌, ◌⊎◌, ◌≢◌, 
 use Rattle.plan.specs.Faults.{Fault3}
 use Rattle.plan.specs.Order.{Numbered}
 use Rattle.judge.specs.Faults.{order_from_5}
-use Rattle.bytes.specs.LittleEndian.{two_bytes}
+use Rattle.numerals.specs.LittleEndian.{two_bytes}
 use Rattle.image.specs.Image.{plan_of, OffsetsFit}
 
 module _ (s : List ℕ) where

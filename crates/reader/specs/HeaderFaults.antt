@@ -7,7 +7,7 @@ use Rattle.std.proofs.Math.Logic.{inl, inr}
 use Rattle.std.proofs.Math.Decide.{ℕ_discrete}
 use borrow.Author.Tests.{ltb-true, lt-ltb, eqb-true, eq-eqb}
 use Rattle.loops.specs.Choice.{both, both_true, both_intro, true_false, not_true}
-use Rattle.bytes.specs.LittleEndian.{two_bytes}
+use Rattle.numerals.specs.LittleEndian.{two_bytes}
 use Rattle.image.specs.Image.{OffsetsFit}
 use Rattle.reader.specs.Faults.{Fault1, Fault2, Fault4}
 use Rattle.image.specs.Header.{good_format, good_offsets, good_later_offsets}
@@ -55,8 +55,8 @@ module _ (s : List ℕ) where
           length_is = eqb-true _ _ e.1;
         },
     λ o.
-        both_intro _ _ (eq-eqb _ _ o.lengths-at) (both_intro _ _ (eq-eqb _ _ o.order-at) (both_intro _ _ (eq-eqb _ _ o.nodes-at)
-        (both_intro _ _ (eq-eqb _ _ o.edges_at) (both_intro _ _ (eq-eqb _ _ o.total-is) (eq-eqb _ _ o.length-is))))),
+        both_intro _ _ (eq-eqb _ _ o.lengths_at) (both_intro _ _ (eq-eqb _ _ o.order_at) (both_intro _ _ (eq-eqb _ _ o.nodes_at)
+        (both_intro _ _ (eq-eqb _ _ o.edges_at) (both_intro _ _ (eq-eqb _ _ o.total_is) (eq-eqb _ _ o.length_is))))),
   )
 
   pub test_4 : (p : ℕ) → ((p ≡ 0) × (good_offsets s ≡ false)) ↔ Fault4 s p

@@ -2,7 +2,7 @@
 -- Assumes nothing.
 use Rattle.std.specs.Prelude.{◌≡◌, List, ℕ, ◌≤◌, length}
 use Rattle.plan.specs.Tables.{Tabled}
-use Rattle.bytes.specs.LittleEndian.{two_bytes}
+use Rattle.numerals.specs.LittleEndian.{two_bytes}
 use Rattle.image.specs.Image.{plan_of, OffsetsFit}
 
 pub record Layout (s : List ℕ) : Type 0 where

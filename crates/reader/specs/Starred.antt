@@ -15,7 +15,7 @@ use Rattle.seats.specs.Crossing.{crosses}
 use Rattle.rounds.specs.Lent.{is_edge, is_last, fires_after, edge_tokens, has_counter, lacks_edge, strays_in, bad_counter_in, sends_in, bad_increment_in, bad_sum_in}
 use Rattle.cycles.specs.Lent.{loop_sum_in, closes_free_in, on_free_cycle_in, no_way_back_in, not_above_in, asks_in, most_asked}
 use Rattle.judge.specs.Tests.{from_15_in, from_13_in, from_11_in, from_9, from_5}
-use Rattle.bytes.specs.LittleEndian.{two_bytes, four_bytes}
+use Rattle.numerals.specs.LittleEndian.{two_bytes, four_bytes}
 use Rattle.image.specs.Offsets.{order_start, node_start, edge_start}
 use Rattle.image.specs.Offsets as offsets
 use Rattle.image.specs.Image.{entry, tables_of, plan_of}

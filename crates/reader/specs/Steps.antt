@@ -15,7 +15,7 @@ use Rattle.plan.specs.Tests.{refuse_if}
 use Rattle.judge.specs.Tests.{from_5}
 use Rattle.judge.specs.Decided.{from_5_numbers, without_q}
 use Rattle.reader.specs.declared.ReadPlan.{ReadPlan}
-use Rattle.bytes.specs.LittleEndian.{two_bytes, four_bytes}
+use Rattle.numerals.specs.LittleEndian.{two_bytes, four_bytes}
 use Rattle.image.specs.Image.{tables_of, plan_of}
 use Rattle.reader.specs.HeaderFaults.{offsets_exactly}
 use Rattle.reader.specs.Theorems.{q_is}
@@ -85,10 +85,10 @@ module _ (s : List ℕ) where
   laid_of h b o =
       let k : CountsFit (plan_of s) = counts_fit (plan_of s) b in
       record {
-        nodes_most = k.nodes-most;
-        processes_most = k.processes-most;
+        nodes_most = k.nodes_most;
+        processes_most = k.processes_most;
         edges_most = k.edges_most;
-        length_is = ((offsets_exactly s).0 o).length-is;
+        length_is = ((offsets_exactly s).0 o).length_is;
         header = h;
       }
 
@@ -96,16 +96,16 @@ module _ (s : List ℕ) where
   pub counted_of : counts_bad ≡ false → (pl : Plan) → with_q pl (plan_of s).q ≡ plan_of s → CountsFit (with_q pl 0)
   unfolding tables_of plan_of
   counted_of b pl e = let k = subst CountsFit (sym e) (counts_fit (plan_of s) b) in record {
-    nodes_some = k.nodes-some;
-    nodes_most = k.nodes-most;
-    processes_some = k.processes-some;
-    processes_most = k.processes-most;
+    nodes_some = k.nodes_some;
+    nodes_most = k.nodes_most;
+    processes_some = k.processes_some;
+    processes_most = k.processes_most;
     edges_some = k.edges_some;
     edges_most = k.edges_most;
-    counters_some = k.counters-some;
-    counters_most = k.counters-most;
-    modulus_some = k.modulus-some;
-    modulus_most = k.modulus-most;
+    counters_some = k.counters_some;
+    counters_most = k.counters_most;
+    modulus_some = k.modulus_some;
+    modulus_most = k.modulus_most;
   }
 
   pub answer_is : (pl : Plan) → with_q pl (plan_of s).q ≡ plan_of s → from_5 (with_q pl 0) ≡ from_5 (plan_of s)

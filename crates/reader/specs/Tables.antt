@@ -3,7 +3,7 @@
 use Rattle.std.specs.Prelude.{◌≡◌, List, ℕ, ◌+◌, ◌*◌, ◌≤◌, ◌<◌}
 use Rattle.loops.specs.Choice.{at}
 use Rattle.loops.specs.Table.{padded, padded_at, padded_past}
-use Rattle.bytes.specs.LittleEndian.{two_bytes}
+use Rattle.numerals.specs.LittleEndian.{two_bytes}
 use Rattle.image.specs.Image.{entry, nodes_in, processes_in, edges_in, order_from, nodes_from, edges_from, tables_of, plan_of}
 
 -- a table holds n numbers of the image, one every `step` bytes from `start` on, and 0 past them

@@ -8,7 +8,7 @@ use Rattle.judge.specs.declared.Answer.{Answer}
 use Rattle.judge.specs.declared.Answer.TheVariants.{Accepted, Refused}
 use Rattle.judge.specs.Tests.{from_5}
 use Rattle.reader.specs.declared.ReadPlan.{ReadPlan}
-use Rattle.bytes.specs.LittleEndian.{two_bytes, four_bytes}
+use Rattle.numerals.specs.LittleEndian.{two_bytes, four_bytes}
 use Rattle.image.specs.Image.{plan_of}
 use Rattle.image.specs.Header.{good_format, good_offsets}
 

@@ -36,7 +36,7 @@ module _ (s : List ℕ) where
       elim (outcome s).one_of [
         | inl a ↦ inl (_, _, _, a)
         | inr r ↦
-            let few = first_number _ _ (each_number_of_image s) r.0 r.1 (((outcome s).refused-first r.0 r.1).0 r.2) in
+            let few = first_number _ _ (each_number_of_image s) r.0 r.1 (((outcome s).refused_first r.0 r.1).0 r.2) in
             inr (r.0, r.1, r.2, few.0, few.1)
       ]
 
@@ -50,13 +50,13 @@ module _ (s : List ℕ) where
   -- "A plan is accepted exactly when its layout and Lamport's conditions C0 to C4, as document 01 lists them, hold."
   pub accepted_exactly : IsAccepted s ↔ (Layout s × Upheld (plan_of s))
   accepted_exactly = (
-    λ a. (none_exactly s).0 ((outcome s).final-clean.0 (is_accepted a)),
-    λ h. (_, _, _, (outcome s).final-clean.1 ((none_exactly s).1 h)),
+    λ a. (none_exactly s).0 ((outcome s).final_clean.0 (is_accepted a)),
+    λ h. (_, _, _, (outcome s).final_clean.1 ((none_exactly s).1 h)),
   )
 
   -- "The lowest number that applies is given; within it the lowest place.": the first of the order, in which numbers rise
   pub refused_first : (k p : ℕ) → (verdict s ≡ Refused k p) ↔ FirstFault (image_order s) k p
-  refused_first = (outcome s).refused-first
+  refused_first = (outcome s).refused_first
 
   -- "the least modulus: the smallest N that would pass 15 and 16 (Q where no edge synchronises)"
   pub least_is_least : (q modulus least : ℕ) → verdict s ≡ Accepted q modulus least
@@ -65,8 +65,8 @@ module _ (s : List ℕ) where
       let n = accepted_numbers q modulus least e in
       let h = accepted_exactly.0 (q, modulus, least, e) in
       let t = h.0.tables in (
-        subst (LeastModulus (plan_of s)) (sym n.2) (judge.least-is-least (plan_of s) t h.1),
-        λ alone. n.2 ∙ judge.least-alone (plan_of s) t h.1 alone ∙ sym n.0,
+        subst (LeastModulus (plan_of s)) (sym n.2) (judge.least_is_least (plan_of s) t h.1),
+        λ alone. n.2 ∙ judge.least_alone (plan_of s) t h.1 alone ∙ sym n.0,
       )
 
   -- the plan value's Q is counter 0's sum

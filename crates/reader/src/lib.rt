@@ -84,11 +84,11 @@ fn read_counted(image: &[u8]) -> ReadPlan
     ensures { result ≡ read_of image.now }
 {
     let counts = entries::counts_bad(
-        bytes::pair_at(image, 2),
-        bytes::pair_at(image, 4),
-        bytes::pair_at(image, 6),
-        bytes::pair_at(image, 8),
-        bytes::quad_at(image, 12),
+        numerals::pair_at(image, 2),
+        numerals::pair_at(image, 4),
+        numerals::pair_at(image, 6),
+        numerals::pair_at(image, 8),
+        numerals::quad_at(image, 12),
     );
     if counts {
         return refusal(3);

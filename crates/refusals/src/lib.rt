@@ -7,7 +7,7 @@ fn is_marked(marks: &[u8; 32768], edges: u16, p: usize, edge: u32) -> bool
     requires { (p < 64) × (edges ≤ 512) }
     ensures { result ≡ marked_in marks.now edges p edge }
 {
-    if bytes::to_word(edges) <= edge {
+    if numerals::to_word(edges) <= edge {
         return false;
     }
     marks[512 * p + edge as usize] == 1
@@ -18,7 +18,7 @@ pub fn of_open(processes: u16, opened: &[u8; 64], process: u32) -> u32
     requires { processes ≤ 64 }
     ensures { result ≡ open_number processes opened.now process }
 {
-    if bytes::to_word(processes) <= process {
+    if numerals::to_word(processes) <= process {
         return 20;
     }
     if opened[process as usize] == 0 { 0 } else { 21 }
@@ -36,7 +36,7 @@ pub fn of_look<'a>(
     requires { (processes ≤ 64) × (edges ≤ 512) }
     ensures { result ≡ look_number processes edges opened.now marks.now process edge }
 {
-    if bytes::to_word(processes) <= process {
+    if numerals::to_word(processes) <= process {
         return 20;
     }
     if opened[process as usize] == 0 {
@@ -59,7 +59,7 @@ pub fn of_fire<'a>(
     requires { processes ≤ 64 }
     ensures { result ≡ fire_number processes opened.now marks.now process }
 {
-    if bytes::to_word(processes) <= process {
+    if numerals::to_word(processes) <= process {
         return 20;
     }
     if opened[process as usize] == 0 {

@@ -5,7 +5,7 @@ ghost use Rattle.loops.specs.Any.{any};
 ghost use Rattle.plan.specs.Value.{base};
 ghost use Rattle.rounds.specs.Lent.{is_edge, is_last, fires_after, edge_tokens, lacks_edge, has_counter, strays_in, bad_counter_in, sends_in, bad_increment_in, bad_sum_in};
 
-use bytes::to_index;
+use numerals::to_index;
 
 // An edge leads from m to n with t tokens.
 fn is_edge_at<'a>(

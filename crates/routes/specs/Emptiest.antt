@@ -28,8 +28,8 @@ module _ (nodes edges : ℕ) (source destination tokens : List ℕ) where
   unfolding graph_of_tables
   ends_in_row few shaped =
       record {
-        source_lt = λ e h. omega (arith, shaped.source-lt e h);
-        destination_lt = λ e h. omega (arith, shaped.destination-lt e h);
+        source_lt = λ e h. omega (arith, shaped.source_lt e h);
+        destination_lt = λ e h. omega (arith, shaped.destination_lt e h);
       }
 
   -- along a route a row that no edge can lower rises by at most the route's tokens
@@ -75,7 +75,7 @@ module _ (nodes edges : ℕ) (source destination tokens : List ℕ) where
                       let before = ap (at row) p in
                       elim (dec_lt (at row (at source e) + at tokens e) (at row (at destination e))) [
                         | yes z ↦
-                            let t = a.met (at source e) (ends.source-lt e h) (omega arith) in (
+                            let t = a.met (at source e) (ends.source_lt e h) (omega arith) in (
                               t.0 ++ (e ∷ []),
                               route_append G t.0 (e ∷ []) from (at source e) v t.1 (h, refl, sym p),
                               omega (arith, tokens_on_append (at tokens) t.0 (e ∷ [])),

@@ -119,7 +119,7 @@ module _ (source destination tokens : List ℕ) where
     pub sweep_kept : (edges : ℕ) → EndsInRow source destination edges → total (sweep source destination tokens edges row) ≡ total row
         → (sweep source destination tokens edges row ≡ row) × Stable edges row
     unfolding sweep
-    sweep_kept edges ends q = fold_kept edges ends.destination-lt q
+    sweep_kept edges ends q = fold_kept edges ends.destination_lt q
 
 -- a sweep's loop at edge e: the row so far, by how much its sum has fallen, and its entries' bound
 pub record Relaxing (source destination tokens : List ℕ) (edges : ℕ) (row : List ℕ) (e : ℕ) (out : List ℕ) (drop : ℕ) : Type 0 where
@@ -152,7 +152,7 @@ module _ {source destination tokens : List ℕ} {edges : ℕ} {row : List ℕ} {
               ap (at out) p,
               ap (at out) q,
               relaxed_there source destination tokens e out,
-              relaxed_total source destination tokens e out (ends.destination-lt e h),
+              relaxed_total source destination tokens e out (ends.destination_lt e h),
             );
         bound = λ v. omega (arith, inv.bound v, ap (λ x. at x v) next, relaxed_le source destination tokens e out v);
       }
@@ -171,10 +171,10 @@ module _ {source destination tokens : List ℕ} {edges : ℕ} {row : List ℕ} {
 
 module _ (source destination : List ℕ) (edges e : ℕ) (ends : EndsInRow source destination edges) (h : e < edges) where
   pub source_in_row : (s : ℕ) → s ≡ at source e → s < 64
-  source_in_row s p = omega (arith, ends.source-lt e h)
+  source_in_row s p = omega (arith, ends.source_lt e h)
 
   pub destination_in_row : (d : ℕ) → d ≡ at destination e → d < 64
-  destination_in_row d p = omega (arith, ends.destination-lt e h)
+  destination_in_row d p = omega (arith, ends.destination_lt e h)
 
 -- what answers an index into the row
 pub ruleset indices = (source_in_row, destination_in_row)

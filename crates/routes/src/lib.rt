@@ -37,8 +37,8 @@ pub fn relax_sweep<'a>(
     let mut drop: u32 = 0;
     let mut e: usize = 0;
     while e < edges {
-        let s = bytes::to_index(source[e]);
-        let d = bytes::to_index(destination[e]);
+        let s = numerals::to_index(source[e]);
+        let d = numerals::to_index(destination[e]);
         let entry = out[d];
         let lower = smaller(entry, out[s], tokens[e]);
         out[d] = lower;

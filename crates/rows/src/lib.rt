@@ -17,7 +17,7 @@ pub fn next_node<'a>(
     ensures { result ≡ next_in order.now lengths.now positions.now p }
 {
     let start = plan::lengths_sum(lengths, p);
-    order[start + bytes::to_index(positions[p])]
+    order[start + numerals::to_index(positions[p])]
 }
 
 // The next node of each process.
@@ -171,7 +171,7 @@ pub fn row_sum(row: &[u8; 512], edges: usize) -> u32
     let mut total: u32 = 0;
     let mut e: usize = 0;
     while e < edges {
-        total += bytes::byte_to_word(row[e]);
+        total += numerals::byte_to_word(row[e]);
         e += 1;
     }
     total
@@ -186,7 +186,7 @@ pub fn marks_left(marks: &[u8; 32768], p: usize) -> u32
     let mut left: u32 = 0;
     let mut k: usize = 0;
     while k < 512 {
-        left += bytes::byte_to_word(marks[row + k]);
+        left += numerals::byte_to_word(marks[row + k]);
         k += 1;
     }
     left

@@ -79,7 +79,7 @@ here {order} {lengths} {nodes} {processes} {p} {start} {i} {x} inv e =
       | no l ↦
           first_all (ends_past lengths i) processes
           (λ k b. le-ltb i (base lengths (suc k)) (omega (arith, inv.begins, inv.before, sum_step (at lengths) (suc k) p (omega arith))))
-          ∙ omega (arith, inv.process-within)
+          ∙ omega (arith, inv.process_within)
     ]
 
 -- a turn that enters the process of the node at position i
@@ -89,7 +89,7 @@ pub housed_more : {order lengths : List ℕ} {nodes processes p start i v r : �
 housed_more {order} {lengths} {nodes} {processes} {p} {start} {i} {v} {r} {x} inv h few once e g q s =
     record {
       within = omega arith;
-      process_within = inv.process-within;
+      process_within = inv.process_within;
       begins = inv.begins;
       before = omega (arith, inv.before);
       long = length-set x v r ∙ inv.long;

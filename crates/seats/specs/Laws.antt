@@ -19,6 +19,6 @@ pub ends_ok : (pl : Plan) → Tabled pl → (edges : ℕ) → edges ≡ pl.edges
 ends_ok pl t edges e =
     record {
       edges_most = omega (arith, t.counts.edges_most);
-      source_lt = λ d h. omega (arith, t.source-lt d (omega arith), t.counts.nodes-most);
-      destination_lt = λ d h. omega (arith, t.destination-lt d (omega arith), t.counts.nodes-most);
+      source_lt = λ d h. omega (arith, t.source_lt d (omega arith), t.counts.nodes_most);
+      destination_lt = λ d h. omega (arith, t.destination_lt d (omega arith), t.counts.nodes_most);
     }

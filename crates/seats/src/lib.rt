@@ -12,7 +12,7 @@ fn stands_at(order: &[u16; 64], v: usize, i: usize) -> bool
     requires { i < 64 }
     ensures { result ≡ stands_at order.now v i }
 {
-    bytes::to_index(order[i]) == v
+    numerals::to_index(order[i]) == v
 }
 
 // The order position of a node, or the number of nodes where it has none.
@@ -36,7 +36,7 @@ fn ends_by(lengths: &[u16; 64], processes: usize, p: usize, start: usize, i: usi
     ensures { result ≡ ended lengths.now processes p start i }
 {
     if p < processes {
-        bytes::to_index(lengths[p]) <= i - start
+        numerals::to_index(lengths[p]) <= i - start
     } else {
         false
     }
@@ -59,10 +59,10 @@ pub fn homes<'a>(
     let mut i: usize = 0;
     while i < nodes {
         if ends_by(lengths, processes, p, start, i) {
-            start += bytes::to_index(lengths[p]);
+            start += numerals::to_index(lengths[p]);
             p += 1;
         } else {
-            table[bytes::to_index(order[i])] = p as u16;
+            table[numerals::to_index(order[i])] = p as u16;
             i += 1;
         }
     }
@@ -93,8 +93,8 @@ fn crossing_at<'a>(
 {
     if synchronising(
         homes,
-        bytes::to_index(source[e]),
-        bytes::to_index(destination[e]),
+        numerals::to_index(source[e]),
+        numerals::to_index(destination[e]),
     ) {
         1
     } else {

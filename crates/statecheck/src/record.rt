@@ -9,7 +9,7 @@ use plan::Plan;
 
 // The length in front of a record.
 pub fn length_in(bytes: &[u8; 4]) -> usize {
-    bytes::word_to_index(bytes::quad_at(bytes, 0))
+    numerals::word_to_index(numerals::quad_at(bytes, 0))
 }
 
 // A byte.
@@ -21,14 +21,14 @@ pub fn byte_at(record: &[u8; 65536], offset: usize) -> u8 {
 fn pair_at(record: &[u8; 65536], offset: usize) -> u16
     requires { offset < 1000000 }
 {
-    bytes::pair_of(byte_at(record, offset), byte_at(record, offset + 1))
+    numerals::pair_of(byte_at(record, offset), byte_at(record, offset + 1))
 }
 
 // A number of four bytes.
 pub fn number_at(record: &[u8; 65536], offset: usize) -> u32
     requires { offset < 900000 }
 {
-    bytes::quad_of(pair_at(record, offset), pair_at(record, offset + 2))
+    numerals::quad_of(pair_at(record, offset), pair_at(record, offset + 2))
 }
 
 // A count of four bytes. A plan value holds a count in two bytes: one above 65,535 is read as 65,535, which is out of shape as well.
@@ -117,14 +117,14 @@ fn counters_in(record: &[u8; 65536]) -> [u32; 64] {
 fn marks_count(record: &[u8; 65536]) -> usize
     ensures { result < 65536 }
 {
-    bytes::to_index(pair_at(record, 4060))
+    numerals::to_index(pair_at(record, 4060))
 }
 
 // Where the mark of a process and an edge stands: the remainders by 64 and by 512 count.
 fn mark_place(process: u8, edge: u16) -> usize
     ensures { result < 32768 }
 {
-    bytes::word_to_index(512 * (bytes::byte_to_word(process) % 64) + bytes::to_word(edge) % 512)
+    numerals::word_to_index(512 * (numerals::byte_to_word(process) % 64) + numerals::to_word(edge) % 512)
 }
 
 // The marks.

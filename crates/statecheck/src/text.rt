@@ -41,7 +41,7 @@ pub fn put_word(out: &mut [u8; 65536], offset: usize, word: &[u8]) -> usize {
 // A number in decimal digits.
 pub fn put_decimal(out: &mut [u8; 65536], offset: usize, n: u32) -> usize {
     let mut digits = [0u8; 10];
-    let count = bytes::text::put_decimal(&mut digits, 0, n);
+    let count = numerals::text::put_decimal(&mut digits, 0, n);
     put_word(out, offset, &digits[..count])
 }
 

@@ -10,7 +10,7 @@ use Rattle.plan.specs.Faults.{InShape}
 use Rattle.judge.specs.declared.Answer.{Answer}
 use Rattle.judge.specs.declared.Answer.TheVariants.{Accepted, Refused}
 use Rattle.reader.specs.declared.ReadPlan.{ReadPlan}
-use Rattle.bytes.specs.LittleEndian.{four_bytes}
+use Rattle.numerals.specs.LittleEndian.{four_bytes}
 use Rattle.reader.specs.Tests.{read_of}
 use Rattle.reader.specs.Theorems.{accepted_sound, all_of_the_plan, answer_is}
 use Rattle.reader.specs.Tests.{IsAccepted}
@@ -20,7 +20,7 @@ use Rattle.transcript.specs.declared.Printed.TheVariants.{Whole, TooShort}
 use Rattle.lines.specs.Words.{too_long_line}
 use Rattle.transcript.specs.Text.{calls_text, image_length, text_by, text_read, run_text, text_of, printed, out_after}
 use Rattle.lines.specs.Lines.{plan_line, refusal_text}
-use Rattle.bytes.specs.Writing.{Put, put_then, put_same, put_nowhere, put_front}
+use Rattle.numerals.specs.Writing.{Put, put_then, put_same, put_nowhere, put_front}
 
 -- ---- the image's length, by the total field
 module _ (input : List ℕ) where
@@ -123,7 +123,7 @@ module _ (input : List ℕ) where
   pub answers_at_once : (out : List ℕ) {after : List ℕ} (j : ℕ) → Put out 0 (text_of input) after j → j ≤ 409642 → 409642 ≤ length out → Answers out after (Whole j)
   unfolding printed out_after
   answers_at_once out j q b h =
-      let e : j ≡ length (text_of input) = omega (arith, q.next-is) in
+      let e : j ≡ length (text_of input) = omega (arith, q.next_is) in
       let t : length (text_of input) ≤ length out = omega arith in
       record {
         answer_is = ap Whole e ∙ sym (if_false (ltb (length out) (length (text_of input))) _ _ (le-ltb _ _ t));
@@ -134,4 +134,4 @@ module _ (input : List ℕ) where
   -- the promise leaves room for one answer and one buffer
   pub one_answer : (out after after' : List ℕ) (answer answer' : Printed) → Answers out after answer → Answers out after' answer'
       → (answer ≡ answer') × (after ≡ after')
-  one_answer out after after' answer answer' p q = (p.answer-is ∙ sym q.answer-is, p.after_is ∙ sym q.after_is)
+  one_answer out after after' answer answer' p q = (p.answer_is ∙ sym q.answer_is, p.after_is ∙ sym q.after_is)

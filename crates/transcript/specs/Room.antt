@@ -15,7 +15,7 @@ module _ (input out after : List ℕ) (answer : Printed) (answers : Answers inpu
   -- the whole text is written
   pub always_whole : answer ≡ Whole (length (text_of input))
   unfolding printed
-  always_whole = answers.answer-is ∙ if_false (ltb (length out) (length (text_of input))) _ _ roomy
+  always_whole = answers.answer_is ∙ if_false (ltb (length out) (length (text_of input))) _ _ roomy
 
   pub text_written : after ≡ text_of input ++ drop (length (text_of input)) out
   unfolding out_after

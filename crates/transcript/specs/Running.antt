@@ -8,7 +8,7 @@ use Rattle.std.proofs.Math.Decide.{dec_lt}
 use Rattle.loops.specs.Choice.{at, if, if_true, if_false}
 use Rattle.plan.specs.declared.Plan.{Plan}
 use Rattle.plan.specs.Faults.{InShape}
-use Rattle.bytes.specs.LittleEndian.{two_bytes}
+use Rattle.numerals.specs.LittleEndian.{two_bytes}
 use Rattle.machine.specs.declared.State.{State}
 use Rattle.machine.specs.declared.Turned.{Turned}
 use Rattle.machine.specs.States.{fresh, Sized, StateInShape}
@@ -20,7 +20,7 @@ use Rattle.machine.specs.ShapeKept.{kept_exactly, shape_kept_in_shape}
 use Rattle.lines.specs.Words.{cut_line}
 use Rattle.transcript.specs.Text.{lines, calls_in, left_over, calls_text}
 use Rattle.lines.specs.Lines.{line}
-use Rattle.bytes.specs.Writing.{Put, put_none, put_then, put_same}
+use Rattle.numerals.specs.Writing.{Put, put_none, put_then, put_same}
 
 -- the bytes at a place as a call: code, process, and two bytes of edge
 unfoldable pub call_at : List ℕ → ℕ → Call
@@ -131,8 +131,8 @@ module _ (pl : Plan) (shape : InShape pl) (calls out₀ : List ℕ) (place₀ : 
   running_more {index} {i} {place} {n} {st} {out} {after} turned r h code process edge is_code is_process is_edge made p l =
       let e : turned ≡ step_in_shape pl st (at calls i) (at calls (i + 1)) (two_bytes calls (i + 2)) =
       made ∙ rw (is_code, is_process, is_edge) in
-      let kept = shape_kept_in_shape pl shape st r.in-shape r.sized (at calls i) (at calls (i + 1)) (two_bytes calls (i + 2)) in
-      let same : turned ≡ turn pl st (call_at calls i) = e ∙ step_same pl st shape r.in-shape (at calls i) (at calls (i + 1)) (two_bytes calls (i + 2)) in
+      let kept = shape_kept_in_shape pl shape st r.in_shape r.sized (at calls i) (at calls (i + 1)) (two_bytes calls (i + 2)) in
+      let same : turned ≡ turn pl st (call_at calls i) = e ∙ step_same pl st shape r.in_shape (at calls i) (at calls (i + 1)) (two_bytes calls (i + 2)) in
       record {
         index_is = omega (arith, r.index_is);
         within = h;

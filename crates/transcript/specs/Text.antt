@@ -6,7 +6,7 @@ use Rattle.plan.specs.declared.Plan.{Plan}
 use Rattle.judge.specs.declared.Answer.{Answer}
 use Rattle.judge.specs.declared.Answer.TheVariants as answers
 use Rattle.reader.specs.declared.ReadPlan.{ReadPlan}
-use Rattle.bytes.specs.LittleEndian.{four_bytes}
+use Rattle.numerals.specs.LittleEndian.{four_bytes}
 use Rattle.reader.specs.Tests.{read_of}
 use Rattle.machine.specs.declared.State.{State}
 use Rattle.machine.specs.declared.Reply.{Reply}

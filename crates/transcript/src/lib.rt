@@ -2,10 +2,10 @@
 ghost use Rattle.std.specs.Prelude.{◌≡◌, ◌+◌, ◌<◌, ◌≤◌, length};
 ghost use Rattle.plan.specs.Value.{plan_with};
 ghost use Rattle.plan.specs.Faults.{InShape};
-ghost use Rattle.bytes.specs.LittleEndian.{four_bytes};
+ghost use Rattle.numerals.specs.LittleEndian.{four_bytes};
 ghost use Rattle.machine.specs.States.{fresh};
 ghost use Rattle.transcript.specs.Text.{calls_text, image_length, run_text, text_of};
-ghost use Rattle.bytes.specs.Writing.{Put};
+ghost use Rattle.numerals.specs.Writing.{Put};
 ghost use Rattle.transcript.specs.Running.{cut_if};
 ghost use Rattle.transcript.specs.Printing.{Answers};
 
@@ -23,7 +23,7 @@ fn total_field(input: &[u8]) -> usize
     requires { 36 ≤ length input.now }
     ensures { result ≡ four_bytes input.now 32 }
 {
-    bytes::word_to_index(bytes::quad_at(input, 32))
+    numerals::word_to_index(numerals::quad_at(input, 32))
 }
 
 // The image is the first T bytes; the whole input where T is missing, below 36 or beyond the input.
@@ -51,7 +51,7 @@ fn put_left_over(out: &mut [u8], offset: usize, left: usize) -> usize
     if left == 0 {
         return offset;
     }
-    bytes::text::put_word(out, offset, b"cut\n")
+    numerals::text::put_word(out, offset, b"cut\n")
 }
 
 // The calls of four bytes: code, process, edge (two bytes). The run begins from an accepted plan, fresh; each call keeps the shape, so none is tested.
@@ -85,9 +85,9 @@ fn put_calls<'a>(
     let mut index: u32 = 0;
     let mut i: usize = 0;
     while i + 4 <= calls.len() {
-        let code = bytes::byte_to_word(calls[i]);
-        let process = bytes::byte_to_word(calls[i + 1]);
-        let edge = bytes::to_word(bytes::pair_at(calls, i + 2));
+        let code = numerals::byte_to_word(calls[i]);
+        let process = numerals::byte_to_word(calls[i + 1]);
+        let edge = numerals::to_word(numerals::pair_at(calls, i + 2));
         let reply = machine::step_in_shape(
             nodes,
             processes,
@@ -156,7 +156,7 @@ fn put_text(input: &[u8], out: &mut [u8]) -> usize
     ensures { Put out.old 0 (text_of input.now) out.new result × (result ≤ 409642) }
 {
     if 65536 < input.len() {
-        return bytes::text::put_word(out, 0, b"too long\n");
+        return numerals::text::put_word(out, 0, b"too long\n");
     }
     put_run(input, out)
 }

@@ -12,7 +12,7 @@ abbrev decreases-loop : tie.decreases-loop
 decreases-loop sums₀ row source destination tokens edges v e₀ sums e = edges - e
 
 through-at-requires : tie.Need-through-at-requires invariant-loop decreases-loop
-through-at-requires c κs = let l = c.before in (search rules, l.before.requires.1.source-lt l.loop.e c.loop-test.true, l.before.requires.2)
+through-at-requires c κs = let l = c.before in (search rules, l.before.requires.1.source_lt l.loop.e c.loop-test.true, l.before.requires.2)
 
 returns : tie.Need-returns invariant-loop decreases-loop
 returns c = search (rules, enterings)

@@ -5,7 +5,7 @@ use Rattle.formula.proofs.b_of.Statement.{statement}
 use Rattle.formula.proofs.b_of.Tie as tie
 
 minus-modulo-requires : tie.Need-minus-modulo-requires
-minus-modulo-requires c κs = let h = rw (← c.before.to-index.ensures.0) at c.before.before.before.before.requires.value-lt in search rules
+minus-modulo-requires c κs = let h = rw (← c.before.to-index.ensures.0) at c.before.before.before.before.requires.value_lt in search rules
 
 returns : tie.Need-returns
 unfolding b_in

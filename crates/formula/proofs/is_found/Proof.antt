@@ -7,7 +7,7 @@ use Rattle.formula.proofs.is_found.Statement.{statement}
 use Rattle.formula.proofs.is_found.Tie as tie
 
 mul-result : tie.Need-overflow-mul-result
-mul-result c = omega (arith, mul-le-mul c.before.before.before.requires.q-most c.before.before.before.requires.tokens-most)
+mul-result c = omega (arith, mul-le-mul c.before.before.before.requires.q_most c.before.before.before.requires.tokens_most)
 
 returns : tie.Need-returns
 unfolding finds

@@ -6,7 +6,7 @@ use Rattle.formula.proofs.raise.Statement.{statement}
 use Rattle.formula.proofs.raise.Tie as tie
 
 plus-modulo-requires : tie.Need-plus-modulo-requires
-plus-modulo-requires c κs = let h = rw (← c.before.before.before.to-index.ensures.0) at c.before.before.before.before.before.requires.value-lt in
+plus-modulo-requires c κs = let h = rw (← c.before.before.before.to-index.ensures.0) at c.before.before.before.before.before.requires.value_lt in
     (omega arith, omega arith)
 
 returns : tie.Need-returns

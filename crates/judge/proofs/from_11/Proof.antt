@@ -42,7 +42,7 @@ from-13-requires c κs =
       g.requires.0,
       sum_some g.args.counter.now g.args.increment.now g.args.nodes g.args.counters g.requires.1 s.counter-sum.ensures
           (omega (arith, f.first-bad-sum.ensures, c.if2.false)),
-      sum_most g.args.counter.now g.args.increment.now g.args.nodes g.args.counters 0 g.requires.1 g.requires.0.nodes-most s.counter-sum.ensures,
+      sum_most g.args.counter.now g.args.increment.now g.args.nodes g.args.counters 0 g.requires.1 g.requires.0.nodes_most s.counter-sum.ensures,
     )
 
 returns-3 : tie.Need-returns-3

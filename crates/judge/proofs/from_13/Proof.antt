@@ -9,7 +9,7 @@ use Rattle.judge.proofs.from_13.Statement.{statement}
 use Rattle.judge.proofs.from_13.Tie as tie
 
 loop-sums-requires : tie.Need-loop-sums-requires
-loop-sums-requires c κs = let ok = c.requires.0 in (ok.nodes-most, ok.edges_most, ends_in_row ok, ok.destination-lt)
+loop-sums-requires c κs = let ok = c.requires.0 in (ok.nodes_most, ok.edges_most, ends_in_row ok, ok.destination_lt)
 
 -- the answer over the sums that were worked out is the answer over the loop sums
 over : (c : tie.After-loop-sums) (r : Answer) → r ≡ from_13_in c.before.args.crossing.now c.loop-sums.result c.before.args.destination.now c.before.args.nodes c.before.args.edges c.before.args.modulus c.before.args.q

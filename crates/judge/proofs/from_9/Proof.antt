@@ -39,7 +39,7 @@ unfolding from_9
 returns c = refused_here _ _ _ _ _ _ _ c.refused.ensures c.before.before.first-bad-order-position.ensures c.before.if1.true
 
 homes-requires : tie.Need-homes-requires
-homes-requires c κs = let s = c.before.before in (s.requires.counts.nodes-most, s.requires.counts.processes-most, order_once (lent s) s.requires)
+homes-requires c κs = let s = c.before.before in (s.requires.counts.nodes_most, s.requires.counts.processes_most, order_once (lent s) s.requires)
 
 returns-2 : tie.Need-returns-2
 unfolding from_9

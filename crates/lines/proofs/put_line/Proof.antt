@@ -1,9 +1,9 @@
 -- `lines::put_line` meets its contract. Assumes nothing.
 use borrow.Author.Rules.{rules}
 use native.Mathlib.Omega.{arith}
-use Rattle.bytes.specs.Decimal.{few_digits}
+use Rattle.numerals.specs.Decimal.{few_digits}
 use Rattle.lines.specs.Lines.{line}
-use Rattle.bytes.specs.Writing.{put_then}
+use Rattle.numerals.specs.Writing.{put_then}
 use Rattle.lines.proofs.put_line.Statement.{statement}
 use Rattle.lines.proofs.put_line.Tie as tie
 

@@ -2,7 +2,7 @@
 use borrow.Author.Rules.{rules}
 use native.Mathlib.Omega.{arith}
 use Rattle.lines.specs.Lines.{plan_line}
-use Rattle.bytes.specs.Writing.{put_then}
+use Rattle.numerals.specs.Writing.{put_then}
 use Rattle.lines.proofs.put_plan_line.Statement.{statement}
 use Rattle.lines.proofs.put_plan_line.Tie as tie
 

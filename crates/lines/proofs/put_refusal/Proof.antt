@@ -2,7 +2,7 @@
 use borrow.Author.Rules.{rules}
 use native.Mathlib.Omega.{arith}
 use Rattle.lines.specs.Lines.{refusal_text}
-use Rattle.bytes.specs.Writing.{put_none, put_like}
+use Rattle.numerals.specs.Writing.{put_none, put_like}
 use Rattle.lines.proofs.put_refusal.Statement.{statement}
 use Rattle.lines.proofs.put_refusal.Tie as tie
 

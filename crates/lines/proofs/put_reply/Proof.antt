@@ -1,7 +1,7 @@
 -- `lines::put_reply` meets its contract. Assumes nothing.
 use borrow.Author.Rules.{rules}
 use Rattle.lines.specs.Lines.{said}
-use Rattle.bytes.specs.Writing.{put_like}
+use Rattle.numerals.specs.Writing.{put_like}
 use Rattle.lines.proofs.put_reply.Statement.{statement}
 use Rattle.lines.proofs.put_reply.Tie as tie
 

@@ -1,7 +1,7 @@
 -- `lines::put_said` meets its contract. Assumes nothing.
 use borrow.Author.Rules.{rules}
 use native.Mathlib.Omega.{arith}
-use Rattle.bytes.specs.Writing.{put_then}
+use Rattle.numerals.specs.Writing.{put_then}
 use Rattle.lines.proofs.put_said.Statement.{statement}
 use Rattle.lines.proofs.put_said.Tie as tie
 

@@ -15,7 +15,7 @@ decreases-loop homes source destination edges row₀ e₀ row e = edges - e
 crossing-at-requires : tie.Need-crossing-at-requires invariant-loop decreases-loop
 crossing-at-requires c κs = let l = c.before in
     let ok = l.before.requires in
-    (search rules, ok.source-lt l.loop.e c.loop-test.true, ok.destination-lt l.loop.e c.loop-test.true)
+    (search rules, ok.source_lt l.loop.e c.loop-test.true, ok.destination_lt l.loop.e c.loop-test.true)
 
 returns : tie.Need-returns invariant-loop decreases-loop
 returns c = search (rules, fills)

@@ -25,7 +25,7 @@ returns : tie.Need-returns
 returns c = stops_at_3 (lent c.before.before) (sym c.before.counts-bad.ensures ∙ c.if1.true)
 
 tables-requires : tie.Need-tables-requires
-tables-requires c κs = let k = counted c in (k.nodes-most, k.processes-most, k.edges_most)
+tables-requires c κs = let k = counted c in (k.nodes_most, k.processes_most, k.edges_most)
 
 returns-2 : tie.Need-returns-2
 unfolding tables_answer tables_then order_then
@@ -35,7 +35,7 @@ returns-2 c =
     stops_at_tables (lent e.before.before) _ _ (sym e.before.counts-bad.ensures ∙ e.if1.false) (sym t.tables.ensures ∙ c.enum-told2.given.1)
 
 q-fits-requires : tie.Need-q-fits-requires
-q-fits-requires c κs = (counted c.before.before.before).nodes-most
+q-fits-requires c κs = (counted c.before.before.before).nodes_most
 
 returns-3 : tie.Need-returns-3
 unfolding tables_answer tables_then order_then q_fits counter_sum

@@ -28,7 +28,7 @@ step-in-shape-requires c κs =
     let edge = c.before.before.before.before.before in
     let loop = edge.before.before.before.before.before.before.before in
     let start = loop.before.before.before in
-    (start.requires.0, loop.loop.invariant.0.in-shape)
+    (start.requires.0, loop.loop.invariant.0.in_shape)
 
 loop-again : tie.Need-loop-preserved invariant-loop decreases-loop
 loop-again c =

@@ -1,7 +1,7 @@
 -- `transcript::put_text` meets its contract. Assumes nothing.
 use borrow.Author.Rules.{rules}
 use native.Mathlib.Omega.{arith}
-use Rattle.bytes.specs.Writing.{put_same}
+use Rattle.numerals.specs.Writing.{put_same}
 use Rattle.transcript.specs.Printing.{text_long, text_run}
 use Rattle.transcript.proofs.put_text.Statement.{statement}
 use Rattle.transcript.proofs.put_text.Tie as tie
