@@ -1,3 +1,4 @@
+#![tactic(auto)]
 // The calls of a run, of any plan value and any state: 26 and 25 are tested first, and `machine` does the rest.
 ghost use Rattle.std.specs.Prelude.{◌≡◌, ◌≤◌};
 ghost use Rattle.plan.specs.Value.{plan_with};

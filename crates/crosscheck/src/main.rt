@@ -1,3 +1,4 @@
+#![tactic(auto)]
 // Answers a long stream of inputs in one process, for comparison with the second program. The stream is, again and again, a length of four
 // bytes, the lower byte first, and that many bytes of `planrun`'s input. For each it writes a line `case K`, K from 0, and `planrun`'s text.
 // A read or a write that fails ends the stream and is told in one line on standard error.

@@ -1,3 +1,4 @@
+#![tactic(auto)]
 // Loop sums, tests 13, 14 and 16 over them, and the least modulus.
 ghost use Rattle.std.specs.Prelude.{◌≡◌, ◌+◌, ◌*◌, ◌<◌, ◌≤◌, max, eqb};
 ghost use Rattle.loops.specs.Choice.{at, if};

@@ -1,3 +1,4 @@
+#![tactic(auto)]
 // Tests 3 and 5 to 8 over counts and lent tables: bounds, lengths, order, nodes and edges.
 ghost use Rattle.std.specs.Prelude.{◌≡◌, [], ◌<◌, ◌≤◌};
 ghost use Rattle.loops.specs.First.{first};

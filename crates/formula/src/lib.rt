@@ -1,3 +1,4 @@
+#![tactic(auto)]
 // The test of an edge (000, formula 14) and the token reading (formula 15), on the counters.
 ghost use Rattle.std.specs.Prelude.{◌≡◌, ◌+◌, ◌%◌, ◌<◌};
 ghost use Rattle.loops.specs.Choice.{at};

@@ -1,3 +1,4 @@
+#![tactic(auto)]
 // A plan image: where its tables begin, tests 2 and 4, and the plan value that its numbers give.
 ghost use Rattle.std.specs.Prelude.{◌≡◌, ◌+◌, ◌<◌, ◌≤◌, eqb, length};
 ghost use Rattle.loops.specs.Table.{padded};

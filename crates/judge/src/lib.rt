@@ -1,3 +1,4 @@
+#![tactic(auto)]
 // The judge: tests 3 and 5 to 16 of any plan value in 01's order, over its counts and tables, which are lent; the least modulus.
 ghost use Rattle.std.specs.Prelude.{◌≡◌, not, ◌%◌, ◌<◌, ◌≤◌, eqb};
 ghost use Rattle.plan.specs.Value.{plan_with};

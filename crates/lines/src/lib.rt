@@ -1,3 +1,4 @@
+#![tactic(auto)]
 // The lines of the text: the first line, and a line for each call.
 ghost use Rattle.std.specs.Prelude.{◌++◌, ◌+◌, ◌<◌, ◌≤◌, length};
 ghost use Rattle.lines.specs.Words.{newline};

@@ -1,1 +1,2 @@
+#![tactic(auto)]
 // No code: marked graphs, firings, routes, cycles and processes, and the laws about them.

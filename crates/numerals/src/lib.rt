@@ -1,3 +1,4 @@
+#![tactic(auto)]
 // Numbers as bytes: wider, read little-endian, and put as decimal text.
 ghost use Rattle.std.specs.Prelude.{◌≡◌, ◌+◌, ◌*◌, ◌<◌, length};
 ghost use Rattle.numerals.specs.LittleEndian.{two_bytes, four_bytes};

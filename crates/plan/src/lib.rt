@@ -1,3 +1,4 @@
+#![tactic(auto)]
 // The plan value; sums over its tables, and the process of an order position.
 ghost use Rattle.std.specs.Prelude.{◌≡◌, ◌<◌, ◌≤◌};
 ghost use Rattle.loops.specs.Choice.{at};

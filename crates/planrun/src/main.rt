@@ -1,3 +1,4 @@
+#![tactic(auto)]
 // Reads at most 65,536 bytes of standard input, and one more to notice that there are more, and writes the whole text. A read or a write that
 // fails is told in one line on standard error; after a read that fails nothing else is printed.
 use streams::Got;

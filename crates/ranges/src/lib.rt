@@ -1,3 +1,4 @@
+#![tactic(auto)]
 // How many entries of a state's lists are out of range: positions, open flags and counters.
 ghost use Rattle.std.specs.Prelude.{◌≡◌, ◌<◌, ◌≤◌};
 ghost use Rattle.loops.specs.Choice.{at, one_if};

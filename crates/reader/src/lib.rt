@@ -1,3 +1,4 @@
+#![tactic(auto)]
 // A plan image read: accepted with Q, N and the least modulus, or refused with a number and a place.
 ghost use Rattle.std.specs.Prelude.{◌≡◌, true, ◌≤◌, length};
 ghost use Rattle.image.specs.Header.{good_format};

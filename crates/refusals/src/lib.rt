@@ -1,3 +1,4 @@
+#![tactic(auto)]
 // Turned-down calls, tested in 01's order: the number, or 0 where the call is accepted.
 ghost use Rattle.std.specs.Prelude.{◌≡◌, ◌<◌, ◌≤◌};
 ghost use Rattle.refusals.specs.Numbers.{marked_in, open_number, look_number, fire_number, call_number};

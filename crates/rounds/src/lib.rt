@@ -1,3 +1,4 @@
+#![tactic(auto)]
 // Tests 9 to 12 over lent tables: process edges; each counter's nodes in one process; increments; sums of increments.
 ghost use Rattle.std.specs.Prelude.{◌≡◌, ◌<◌, ◌≤◌};
 ghost use Rattle.loops.specs.First.{first};

@@ -1,3 +1,4 @@
+#![tactic(auto)]
 // The row of emptiest routes from one node: relaxed sweep by sweep until nothing changes.
 ghost use Rattle.std.specs.Prelude.{◌≡◌, ◌+◌, ◌<◌, ◌≤◌, min};
 ghost use Rattle.routes.specs.Rows.{no_route, total, sweep, emptiest_row};

@@ -1,3 +1,4 @@
+#![tactic(auto)]
 // Rows of a state and of a plan, lent: which edges are to see, which marks are too many, and how many are left.
 ghost use Rattle.std.specs.Prelude.{◌≡◌, ◌+◌, ◌<◌, ◌≤◌, ltb};
 ghost use Rattle.loops.specs.Choice.{at, one_if};

@@ -1,3 +1,4 @@
+#![tactic(auto)]
 // Where each node stands: its order position, its process, and whether an edge's ends are in different processes.
 ghost use Rattle.std.specs.Prelude.{◌≡◌, ◌<◌, ◌≤◌};
 ghost use Rattle.loops.specs.Choice.{at};

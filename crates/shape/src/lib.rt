@@ -1,3 +1,4 @@
+#![tactic(auto)]
 // Whether a plan value is in shape: tests 3 and 5 to 8 pass, and its Q is counter 0's sum and at least 1. Everything is lent.
 ghost use Rattle.std.specs.Prelude.{◌≡◌, ◌≤◌, eqb, leb};
 ghost use Rattle.loops.specs.Choice.{both};

@@ -1,3 +1,4 @@
+#![tactic(auto)]
 // Answers a stream of made-up plan values, states and requests, for comparison with the second program. The stream is, again and again, a
 // length of four bytes and a record of that many bytes, at most 65,536; the record is described in `record.rt`. For each it writes a line
 // `case K`, K from 0, a line for each request, and the state that the requests leave. A stream that is cut has come to its end. A read or a

@@ -1,3 +1,4 @@
+#![tactic(auto)]
 // Standard input, standard output and standard error for programs that never take an error for the end of the input or for success.
 // A call that a signal interrupts, and one that a non-blocking stream answers with "try again", is tried again; one that moves a part of the
 // bytes is continued.

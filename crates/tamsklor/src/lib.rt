@@ -1,3 +1,4 @@
+#![tactic(auto)]
 // What the recorder's host in C calls: the plan check, the plan of an image, and a run by single calls. Numbers and arrays only.
 ghost use Rattle.std.specs.Prelude.{◌≡◌};
 ghost use Rattle.reader.specs.Tests.{verdict, read_of};

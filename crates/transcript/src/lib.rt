@@ -1,3 +1,4 @@
+#![tactic(auto)]
 // The whole text that `planrun` prints for an input: the first line, a line for each call, `cut`; or `too long`.
 ghost use Rattle.std.specs.Prelude.{◌≡◌, ◌+◌, ◌<◌, ◌≤◌, length};
 ghost use Rattle.plan.specs.Value.{plan_with};
