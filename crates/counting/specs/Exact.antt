@@ -3,7 +3,7 @@
 use Rattle.std.specs.Prelude.{◌≡◌, true, false, not, ◌↔◌}
 use Rattle.std.proofs.Math.Path.{sym, ap}
 use Rattle.std.proofs.Common.{◌∙◌, mul-le-mul_left, eqb-true, eq-eqb}
-use Rattle.std.proofs.Math.Logic.{Iff·trans}
+use Rattle.std.proofs.Math.Logic.Iff
 use Prim.Native.Nat.{ℕ, ◌+◌, ◌-◌, ◌*◌, ◌/◌, ◌%◌, ◌≤◌, ◌<◌}
 use native.Mathlib.Omega.{arith}
 use Rattle.std.proofs.Math.Decide.{dec_lt}
@@ -38,8 +38,8 @@ module _ {q n tokens now of_end of_source b_end b_source : ℕ} (edge : Counted_
       let s : (q * tokens + B) % n ≡ q * (tokens + of_source) % n =
       ap (◌% n) (let e : q * tokens + B ≡ B + q * tokens = omega arith in e)
       ∙ plus_congruent n B (q * of_source) (q * tokens) edge.source_rounded ∙ ap (◌% n) (omega arith) in
-      Iff·trans (waits_is q n tokens b_end b_source)
-      (Iff·trans (minus_is n A B z (q * tokens)) (λ e. sym edge.end_rounded ∙ e ∙ s, λ e. edge.end_rounded ∙ e ∙ sym s))
+      Iff.trans (waits_is q n tokens b_end b_source)
+      (Iff.trans (minus_is n A B z (q * tokens)) (λ e. sym edge.end_rounded ∙ e ∙ s, λ e. edge.end_rounded ∙ e ∙ sym s))
 
   -- with any N the test waits where no token stands
   pub empty_waits : now ≡ 0 → finds q n tokens b_end b_source ≡ false

@@ -3,7 +3,7 @@
 use Rattle.std.specs.Prelude.{◌≡◌, true, List, ◌↔◌, ℕ, ◌<◌}
 use Rattle.std.proofs.Math.Path.{sym, ap, ap₂}
 use Rattle.std.proofs.Common.{◌∙◌}
-use Rattle.std.proofs.Math.Logic.{Iff·trans}
+use Rattle.std.proofs.Math.Logic.Iff
 use Rattle.loops.specs.Choice.{at}
 use Rattle.loops.specs.Sum.{sum}
 use Rattle.net.specs.Processes.{Next}
@@ -48,5 +48,5 @@ module _ (pl : Plan) (sound : Sound pl) where
         → (edge_found pl st e ≡ true) ↔ (0 < tokens_after pl s e)
     unfolding graph_of graph_of_tables
     found_exactly e y next =
-        Iff·trans (edge_found_is st e y.known)
+        Iff.trans (edge_found_is st e y.known)
         (look_exact (graph_of pl) (seats pl sound) (counters pl sound) (shaped pl sound) f.stands e y.known (between pl sound e y) next)

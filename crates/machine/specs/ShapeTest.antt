@@ -2,7 +2,7 @@
 -- Assumes nothing.
 use Rattle.std.specs.Prelude.{◌≡◌, ℕ, ◌<◌, ◌≤◌, Bool, true, false, ◌≢◌, ◌↔◌, List, ◌==◌, nat_le, nat_lt}
 use Rattle.std.proofs.Common.{sym, ◌∙◌}
-use Rattle.std.proofs.Math.Logic.{Iff·trans}
+use Rattle.std.proofs.Math.Logic.Iff
 use native.Mathlib.Omega.{arith}
 use Rattle.std.proofs.Math.Decide.{ℕ_discrete, dec_lt}
 use borrow.Author.Tests.{ltb-true, ltb-false, leb-false, eqb-true, lt-ltb, le-ltb, lt-leb, eq-eqb}
@@ -120,7 +120,7 @@ module _ (pl : Plan) (shape : InShape pl) where
 
     -- the test is true exactly where the state is in shape
     pub state_fits_exactly : (state_fits pl st ≡ true) ↔ StateInShape pl st
-    state_fits_exactly = Iff·trans tests_exactly (parts_exactly pl (formed pl shape).tables.counts st)
+    state_fits_exactly = Iff.trans tests_exactly (parts_exactly pl (formed pl shape).tables.counts st)
 
 -- the test of plan and state is true exactly where both are in shape
 pub both_fit_exactly : (pl : Plan) (st : State) → (both_fit pl st ≡ true) ↔ (InShape pl × StateInShape pl st)

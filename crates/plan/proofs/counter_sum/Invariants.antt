@@ -1,0 +1,12 @@
+use Rattle.std.proofs.Common.{◌-◌, ◌≡◌, ◌<◌, ◌≤◌, ℕ, ◌+◌, ◌*◌, length}
+use Rattle.loops.specs.Choice.{at}
+use Rattle.loops.specs.Sum.{sum, Sum, sums}
+use Rattle.plan.specs.Value.{base, share}
+use Rattle.plan.specs.Tests.{process_at}
+use Rattle.plan.proofs.counter_sum.Given as goal
+
+abbrev pub invariant-loop-v : goal.invariant-loop-v
+invariant-loop-v l = Sum (share l.counter l.increment l.c) l.nodes l.v l.sum × (l.sum ≤ 65535 * l.v)
+
+abbrev pub decreases-loop-v : goal.decreases-loop-v
+decreases-loop-v l = l.nodes - l.v

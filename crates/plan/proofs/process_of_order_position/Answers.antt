@@ -1,0 +1,26 @@
+use Rattle.std.proofs.Common.{rules, ◌≡◌, ◌<◌, ◌≤◌, ℕ, ◌+◌, ◌-◌, ◌*◌, length, ◌/◌, ◌%◌, Bool, true, false, nat_eq, nat_lt, List, [], ◌∷◌, ◌++◌, slice_index_or, slice_set, bit_and, bit_or, Fits, w8, w32, w64, Bor, MutBor, arith}
+use Rattle.loops.specs.Choice.{at}
+use Rattle.loops.specs.Sum.{sum, Sum, sums}
+use Rattle.plan.specs.Value.{base, share}
+use Rattle.plan.specs.Tests.{process_at, ends_past}
+use Rattle.std.proofs.lemmas.Grind.{common_steps}
+use Rattle.loops.specs.First.{First, firsts, first_hit, first_miss}
+use Rattle.plan.specs.Running.{ends_here, ends_before}
+use mathlib.Core.Path.{refl}
+use Rattle.plan.proofs.process_of_order_position.Goals as goal
+
+pub loop-p-init : goal.loop-p-init
+unfolding process_at
+loop-p-init c = search (rules, sums, firsts)
+
+pub returns-then-i-end : goal.returns-then-i-end
+unfolding process_at
+returns-then-i-end c = first_hit c.loop-p.invariant.0 c.loop-p-test.true (ends_here c.args.lengths.now c.args.i c.loop-p.invariant.1 c.length_at.ensures c.if-i-end.true) refl
+
+pub loop-p-preserved : goal.loop-p-preserved
+unfolding process_at
+loop-p-preserved c = (first_miss c.loop-p.invariant.0 c.loop-p-test.true (ends_before c.args.lengths.now c.args.i c.loop-p.invariant.1 c.length_at.ensures c.if-i-end.false) refl, search (rules, sums), search rules)
+
+pub returns : goal.returns
+unfolding process_at
+returns c = search (rules, firsts, sums)

@@ -1,0 +1,15 @@
+use Rattle.std.proofs.Common.{◌-◌, ◌≡◌, ◌<◌, ◌≤◌, ℕ, ◌+◌, ◌*◌, length}
+use Rattle.loops.specs.Choice.{at}
+use Rattle.loops.specs.Sum.{sum, Sum, sums}
+use Rattle.plan.specs.Value.{base, share}
+use Rattle.plan.specs.Tests.{process_at, ends_past}
+use Rattle.loops.specs.First.{First, firsts, first_hit, first_miss}
+use Rattle.plan.specs.Running.{ends_here, ends_before}
+use mathlib.Core.Path.{refl}
+use Rattle.plan.proofs.process_of_order_position.Given as goal
+
+abbrev pub invariant-loop-p : goal.invariant-loop-p
+invariant-loop-p l = First (ends_past l.lengths l.i) l.processes l.p × Sum (at l.lengths) l.processes l.p l.end × (l.end ≤ 65535 * l.p)
+
+abbrev pub decreases-loop-p : goal.decreases-loop-p
+decreases-loop-p l = l.processes - l.p
