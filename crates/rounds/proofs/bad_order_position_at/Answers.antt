@@ -9,7 +9,7 @@ use Rattle.rounds.proofs.bad_order_position_at.Goals as goal
 
 pub offset_bounds-order-next : goal.offset_bounds-order-next
 unfolding lacks_edge
-offset_bounds-order-next c = ?
+offset_bounds-order-next c = omega (arith, fires_after_lt _ _ _ c.requires.3)
 
 pub bounds-order-next : goal.bounds-order-next
 unfolding lacks_edge

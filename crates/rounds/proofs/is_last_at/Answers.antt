@@ -10,7 +10,7 @@ use Rattle.rounds.proofs.is_last_at.Goals as goal
 
 pub overflow_add-p : goal.overflow_add-p
 unfolding is_last
-overflow_add-p c = ?
+overflow_add-p c = omega (arith, process_at_lt _ _ _ c.requires.2)
 
 pub lengths_sum-requires : goal.lengths_sum-requires
 unfolding is_last
