@@ -21,7 +21,7 @@ tables-checked-requires c = let k = (counts_fit (plan_with c.args.nodes c.args.p
 pub returns-in_default : goal.returns-in_default
 unfolding tables_answer tables_then order_then
 returns-in_default c =
-    stops_at_tables (plan_with c.args.nodes c.args.processes c.args.edges c.args.counters c.args.modulus c.args.q c.args.lengths.now c.args.order.now c.args.counter.now c.args.increment.now c.args.source.now c.args.destination.now c.args.tokens.now) _ _ (sym c.counts_bad.ensures ∙ c.if-counts_bad.false) (sym c.tables-checked.ensures ∙ c.enum_told-in_default-1.given.1)
+    stops_at_tables (plan_with c.args.nodes c.args.processes c.args.edges c.args.counters c.args.modulus c.args.q c.args.lengths.now c.args.order.now c.args.counter.now c.args.increment.now c.args.source.now c.args.destination.now c.args.tokens.now) _ _ (sym c.counts_bad.ensures ∙ c.if-counts_bad.false) (sym c.tables-checked.ensures ∙ c.in_default.is)
 
 pub q_fits-requires : goal.q_fits-requires
 q_fits-requires c = (counts_fit (plan_with c.args.nodes c.args.processes c.args.edges c.args.counters c.args.modulus c.args.q c.args.lengths.now c.args.order.now c.args.counter.now c.args.increment.now c.args.source.now c.args.destination.now c.args.tokens.now) (sym c.counts_bad.ensures ∙ c.if-counts_bad.false)).nodes_most
@@ -29,4 +29,4 @@ q_fits-requires c = (counts_fit (plan_with c.args.nodes c.args.processes c.args.
 pub returns : goal.returns
 unfolding tables_answer tables_then order_then q_fits counter_sum
 returns c =
-    goes_to_q (plan_with c.args.nodes c.args.processes c.args.edges c.args.counters c.args.modulus c.args.q c.args.lengths.now c.args.order.now c.args.counter.now c.args.increment.now c.args.source.now c.args.destination.now c.args.tokens.now) (sym c.counts_bad.ensures ∙ c.if-counts_bad.false) (sym c.tables-checked.ensures ∙ c.enum_told-1.given.1) c.q_fits.ensures
+    goes_to_q (plan_with c.args.nodes c.args.processes c.args.edges c.args.counters c.args.modulus c.args.q c.args.lengths.now c.args.order.now c.args.counter.now c.args.increment.now c.args.source.now c.args.destination.now c.args.tokens.now) (sym c.counts_bad.ensures ∙ c.if-counts_bad.false) (sym c.tables-checked.ensures ∙ c.in-Passed.is) c.q_fits.ensures

@@ -1,0 +1,28 @@
+use Rattle.std.proofs.Common.{rules, ◌≡◌, not, ◌%◌, ◌<◌, ◌≤◌, eqb, ℕ, ◌+◌, ◌-◌, ◌*◌, length, ◌/◌, Bool, true, false, nat_lt, List, [], ◌∷◌, ◌++◌, slice_index_or, slice_set, bit_and, bit_or, Fits, w8, w32, w64, Bor, MutBor, arith}
+use Rattle.plan.specs.Value.{plan_with}
+use Rattle.plan.specs.Faults.{CountsFit}
+use Rattle.plan.specs.Tables.{Tabled}
+use Rattle.cycles.specs.Lent.{Small}
+use Rattle.judge.specs.Tests.{counter_0, sums_of, from_15_in, from_13_in, from_11_in, from_9, from_5, judged}
+use Rattle.judge.specs.Lent.{EdgesOk, CountersOk}
+use Rattle.std.proofs.lemmas.Grind.{common_steps}
+use mathlib.Core.Path.{sym, ap, ◌∙◌}
+use Rattle.plan.specs.Refusing.{refused_here, passed_here, refused_if, passed_if}
+use Rattle.judge.specs.declared.Answer.TheVariants.{Accepted}
+use Rattle.judge.proofs.from_15.Goals as goal
+
+pub returns-then-not_multiple_of : goal.returns-then-not_multiple_of
+unfolding from_15_in
+returns-then-not_multiple_of c = refused_if _ _ _ _ _ c.refused.ensures (sym c.not_multiple_of.ensures ∙ c.if-not_multiple_of.true)
+
+pub returns-then-low-edges : goal.returns-then-low-edges
+unfolding from_15_in
+returns-then-low-edges c =
+    passed_if _ _ _ _ _ (sym c.not_multiple_of.ensures ∙ c.if-not_multiple_of.false)
+    (refused_here _ _ _ _ _ _ _ c.refused-then-low-edges.ensures c.first_not_above-low.ensures c.if-low-edges.true)
+
+pub returns : goal.returns
+unfolding from_15_in
+returns c =
+    passed_if _ _ _ _ _ (sym c.not_multiple_of.ensures ∙ c.if-not_multiple_of.false)
+    (passed_here _ _ _ _ _ _ _ c.first_not_above-low.ensures c.if-low-edges.false (ap (Accepted c.args.q c.args.modulus) c.least_modulus.ensures))
