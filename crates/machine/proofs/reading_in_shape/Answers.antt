@@ -27,26 +27,14 @@ pub crossing-crossing-requires : goal.crossing-crossing-requires
 crossing-crossing-requires c = seated_ok _ c.requires.0
 
 pub bounds-crossing-e : goal.bounds-crossing-e
-bounds-crossing-e c = let at-word = c in
-    known_edge _ at-word.before.requires.0 _ (below_it _ _ _ at-word.to_word.ensures.0 c.if-to_word-edge.false)
+bounds-crossing-e c = known_edge _ c.requires.0 _ (below_it _ _ _ c.to_word.ensures.0 c.if-to_word-edge.false)
 
 pub edge_reading-requires : goal.edge_reading-requires
-edge_reading-requires c = let at-if1 = c in
-    let at-word = at-if1.before in
-    let start = at-word.before in
-    edge_ok _ _ start.requires.0 start.requires.1 _ (below_it _ _ _ at-word.to_word.ensures.0 at-if1.if1.false)
+edge_reading-requires c = edge_ok _ _ c.requires.0 c.requires.1 _ (below_it _ _ _ c.to_word.ensures.0 c.if-to_word-edge.false)
 
 pub returns-then-crossing-e-eq1 : goal.returns-then-crossing-e-eq1
-returns-then-crossing-e-eq1 c = let at-if2 = c in
-    let at-crossing = at-if2.before in
-    let at-if1 = at-crossing.before in
-    let at-word = at-if1.before in
-    let start = at-word.before in
-    reading_turn _ _ _ _ _ _ start.requires.0 at-crossing.crossing.ensures at-word.to_word.ensures.0 at-if1.if1.false c.edge_reading.ensures (search rules)
+returns-then-crossing-e-eq1 c =
+    reading_turn _ _ _ _ _ _ c.requires.0 c.crossing-crossing.ensures c.to_word.ensures.0 c.if-to_word-edge.false c.edge_reading.ensures (search rules)
 
 pub returns : goal.returns
-returns c = let at-crossing = c in
-    let at-if1 = at-crossing.before in
-    let at-word = at-if1.before in
-    let start = at-word.before in
-    no_reading _ _ _ 0 _ _ start.requires.0 at-crossing.crossing.ensures at-word.to_word.ensures.0 at-if1.if1.false (search rules)
+returns c = no_reading _ _ _ 0 _ _ c.requires.0 c.crossing-crossing.ensures c.to_word.ensures.0 c.if-to_word-edge.false (search rules)

@@ -29,7 +29,7 @@ do_open-requires c = opens_ok _ _ _ _ _ _ c.of_call-number.ensures c.if-number-g
 
 pub returns-then-code-eq0 : goal.returns-then-code-eq0
 unfolding raised
-returns-then-code-eq0 c = opened_step _ _ _ _ _ _ c.of_call-number.ensures c.if-number-gt0.false _ c.wrapping_add_u32.ensures c.requires.0 _ _ _ c.if-code-eq0.true c.do_open.ensures.0 c.do_open.ensures.1 c.do_open.ensures.2
+returns-then-code-eq0 c = opened_step _ _ _ _ _ _ c.of_call-number.ensures c.if-number-gt0.false _ c.wrapping_add_u32.ensures.value c.requires.0 _ _ _ c.if-code-eq0.true c.do_open.ensures.0 c.do_open.ensures.1 c.do_open.ensures.2
 
 pub edge_found-found-requires : goal.edge_found-found-requires
 edge_found-found-requires c = edge_known _ _ _ _ _ _ c.of_call-number.ensures c.if-number-gt0.false c.requires.0 c.requires.1 c.if-code-eq1.true
@@ -39,11 +39,11 @@ do_look-requires c = looks_ok _ _ _ _ _ _ c.of_call-number.ensures c.if-number-g
 
 pub returns-then-code-eq1 : goal.returns-then-code-eq1
 unfolding raised
-returns-then-code-eq1 c = looked_step _ _ _ _ _ _ c.of_call-number.ensures c.if-number-gt0.false _ c.wrapping_add_u32.ensures c.requires.0 _ _ _ c.if-code-eq1.true c.edge_found-found.ensures c.do_look.ensures.0 c.do_look.ensures.1
+returns-then-code-eq1 c = looked_step _ _ _ _ _ _ c.of_call-number.ensures c.if-number-gt0.false _ c.wrapping_add_u32.ensures.value c.requires.0 _ _ _ c.if-code-eq1.true c.edge_found-found.ensures c.do_look.ensures.0 c.do_look.ensures.1
 
 pub do_fire-node-requires : goal.do_fire-node-requires
 do_fire-node-requires c = fires_ok _ _ _ _ _ _ c.of_call-number.ensures c.if-number-gt0.false c.requires.0 c.requires.1 c.if-code-eq0.false c.if-code-eq1.false
 
 pub returns : goal.returns
 unfolding raised
-returns c = fired_step _ _ _ _ _ _ c.of_call-number.ensures c.if-number-gt0.false _ c.wrapping_add_u32.ensures _ _ _ _ _ c.if-code-eq0.false c.if-code-eq1.false c.to_word.ensures.0 c.do_fire-node.ensures.0 c.do_fire-node.ensures.1 c.do_fire-node.ensures.2 c.do_fire-node.ensures.3
+returns c = fired_step _ _ _ _ _ _ c.of_call-number.ensures c.if-number-gt0.false _ c.wrapping_add_u32.ensures.value _ _ _ _ _ c.if-code-eq0.false c.if-code-eq1.false c.to_word.ensures.0 c.do_fire-node.ensures.0 c.do_fire-node.ensures.1 c.do_fire-node.ensures.2 c.do_fire-node.ensures.3
