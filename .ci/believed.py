@@ -1,19 +1,22 @@
 """What must be believed of the theorems: every definition that a statement reaches stands in a file of definitions only.
 
-Markers, in the leading comment of a file below crates/*/specs:
-  "-- Statements .."   a line that begins so marks a statement file; crates/demands/specs/Demands.antt is one in any case.
+Markers, in the leading comment of a file below crates/*/specs or crates/*/proofs:
+  "-- Statements .."   a line that begins so marks a statement file. Those of STATED are statement files in any case, and have to be there.
   "Definitions only."  marks a file of definitions only: `use` and `mod` lines, fixities, sections, records, data types, and definitions
                        marked `abbrev` or `unfoldable`, with no tactic in them.
 
 From the type of each public statement every name is followed to its definition, and on through that definition's sections, type and
 clauses, a record's fields, a data type's constructors. Proofs are not followed. The struct or enum behind `specs.declared` is believed
-through the source that declares it. The kit's libraries are not followed.
+through the source that declares it, and has no ghost parts. The kit's libraries are not followed.
+
+A name's module says where its file stands: `Rattle.X.specs.Y` is crates/X/specs/Y.antt, `Rattle.X.proofs.Y` crates/X/proofs/Y.antt.
 
 Fails, one line each, where
 - a reached definition stands in a file that is not one of definitions only; in the statement file itself only an `abbrev` may stand;
 - a theorem, or a definition that is marked neither `abbrev` nor `unfoldable`, is reached;
 - a file marked as definitions only holds anything else;
 - a name of a statement or of a reached definition cannot be resolved;
+- a statement file of STATED is missing, or stands twice;
 - a public statement of Demands.antt is not proved by one citation of another file's proof.
 
     believed.py              check the tree
@@ -26,29 +29,39 @@ import re
 import sys
 import tempfile
 
-DEMANDS = "crates/demands/specs/Demands.antt"
+# the crates that state what is proved, and the file in which each does, below its specs/ or its proofs/; the first is always there
+STATED = {"demands": "Demands", "demands_c": "DemandsC", "judge": "Theorems", "reader": "Theorems"}
+BELOW = ("specs", "proofs")
 STATEMENTS = "-- Statements"
 DEFINITIONS = "Definitions only."
 
 OPENS, CLOSES = {"(": ")", "{": "}", "[": "]"}, {")", "}", "]"}
-MARKS = ("unfoldable", "abbrev", "pub")
-TACTICS = {"rw", "simp", "search", "grw", "cc", "omega"}
+MARKS = ("pattern", "unfoldable", "abbrev", "pub")
+TACTICS = set("rw rw⁻¹ simp search grw cc omega grind hlevel assumption first_of cap ground".split())
 # what no direct citation holds: proof steps, and terms put together on the spot
 STEPS = TACTICS | {"let", "elim", "record", "where", "λ", "do", "unfold"}
 RESERVED = set(
-    "data record deriving module where use mod pub package using open as unfoldable abbrev axiom unfold unfolding ruleset mutual "
-    "infix infixl infixr elim let in do λ ∀ Type 𝕀 𝔽 ∨ ∧ : = → × ↦ | ← _ ⊔ [ ] ( ) { } . ; , @".split()
+    "data record deriving module where use mod pub package open as pattern unfoldable abbrev axiom unfold unfolding ruleset mutual "
+    "infix infixl infixr elim let in do λ ∀ Type 𝕀 𝔽 coe fcoe tcoe hcom com ∨ ∧ : = → × ↦ | ← _ ⊔ [ ] ( ) { } . ; , @".split()
 )
 # the kit's prelude, open in every file
 PRELUDE = set(
-    "IsProp IsSet ⊥ absurd ¬_ ¬ Dec yes no Discrete ∥_∥₁ ∣_∣₁ squash₁ ∥ ∥₁ ∣ ∣₁ Unit tt Id J Path".split()
+    "IsProp IsSet ⊥ absurd ¬◌ ¬ Dec yes no Discrete ∥◌∥₁ ∣◌∣₁ squash₁ ∥ ∥₁ ∣ ∣₁ Unit tt Id J Path".split()
 )
-LIBRARIES = ("mathlib", "Prim", "lib", "native", "borrow", "mir")
+LIBRARIES = ("mathlib", "Prim", "lib", "native", "borrow", "denote", "mir")
+# the crate of the kit whose words statements use
+KIT = "Rattle.std."
 
 Token = collections.namedtuple("Token", "text spaced line")
 # a definition that is reached: where it stands (a file, or a crate's source) and its name
 Place = collections.namedtuple("Place", "file name")
 SOURCE = "source of "
+
+
+def is_kit(module):
+    """Is a module the kit's?"""
+    return module.split(".", 1)[0] in LIBRARIES or (module + ".").startswith(KIT)
+
 
 WORD = re.compile(r'"(?:[^"\\]|\\.)*"|«[^»]*»|[(){}.;,@]|[^\s(){}.;,@"«»]+')
 
@@ -125,8 +138,17 @@ class Broken(Exception):
     pass
 
 
+def stated(crate):
+    """The places where the statement file of a crate may stand."""
+    return [f"crates/{crate}/{below}/{STATED[crate]}.antt" for below in BELOW]
+
+
+def is_stated(name):
+    return any(name in stated(crate) for crate in STATED)
+
+
 class File:
-    """A spec file: its imports, its items in order, and what else stands in it."""
+    """A file of specs/ or proofs/: its imports, its items in order, and what else stands in it."""
 
     def __init__(self, root, name):
         self.root, self.name = root, name
@@ -146,18 +168,23 @@ class File:
             if item.kind == "data":
                 for member in item.members:
                     self.constructors.setdefault(member.name, item)
-        # a part of an operator's name stands for it: `≡` for `_≡_`
+        # a part of an operator's name stands for it: `≡` for `◌≡◌`
         self.operators = {}
         for name in [*self.imports, *self.own, *self.constructors]:
-            for part in name.split("_"):
+            for part in name.split("◌"):
                 if part and part != name:
                     self.operators.setdefault(part, name)
+
+    def hidden(self):
+        """The names of tactics that stand for something of the file's own: declared here, or brought in from elsewhere than `Prim`."""
+        brought = {name for name, (module, _) in self.imports.items() if not (module + ".").startswith("Prim.")}
+        return TACTICS.intersection([*self.own, *brought])
 
     def is_definitions(self):
         return any(DEFINITIONS in line for line in self.leading)
 
     def is_statements(self):
-        return self.name == DEMANDS or any(line.startswith(STATEMENTS) for line in self.leading)
+        return is_stated(self.name) or any(line.startswith(STATEMENTS) for line in self.leading)
 
     def block(self, lines, sections, items):
         """The items of a block, into `items`."""
@@ -223,7 +250,7 @@ class File:
         return item
 
     def use(self, words):
-        """A `use` line: `M.{a, b as c, N.d}`, `M as m`, `M`."""
+        """A `use` line: `M.{a, b as c, N.d}`, `M as m`, `M`. Names that a glob `M.*` brings are not resolved."""
         brace = next((k for k, w in enumerate(words) if w.text == "{"), None)
         if brace is None:
             named = next((k for k, w in enumerate(words) if w.text == "as"), None)
@@ -245,13 +272,14 @@ class File:
 
 
 class Tree:
-    """The spec files of a tree, read when they are needed."""
+    """The files of specs/ and proofs/ of a tree, read when they are needed."""
 
     def __init__(self, root):
         self.root, self.files = root, {}
 
     def names(self):
-        return sorted(str(p.relative_to(self.root)) for p in self.root.glob("crates/*/specs/**/*.antt"))
+        paths = (p for below in BELOW for p in self.root.glob(f"crates/*/{below}/**/*.antt"))
+        return sorted(str(p.relative_to(self.root)) for p in paths)
 
     def file(self, name):
         if name not in self.files:
@@ -260,17 +288,19 @@ class Tree:
 
     def place(self, module, name):
         """Where the name of a module is defined; None for the kit's."""
-        if module.split(".", 1)[0] in LIBRARIES:
+        module = module.removeprefix("package.")
+        if is_kit(module):
             return None
-        match = re.fullmatch(r"Rattle·([^.·]+)(?:·specs)?\.specs\.(.+)", module)
-        if not match:
+        match = re.fullmatch(r"Rattle\.([^.]+)\.(specs|proofs)\.(.+)", module)
+        if not match or not (self.root / "crates" / match[1]).is_dir():
             raise Broken(f"the module {module} of {name} is not known")
-        crate, path = match.groups()
-        if path.startswith("declared."):
-            return Place(SOURCE + crate, path.split(".")[1])
-        file = f"crates/{crate}/specs/{path.replace('.', '/')}.antt"
-        if not (self.root / file).is_file():
-            raise Broken(f"{file}, named for {name}, is missing")
+        crate, below, path = match.groups()
+        if below == "specs" and path.startswith("declared."):
+            return self.declared(crate, path.split(".")[1:], name)
+        stem = f"crates/{crate}/{below}/{path.replace('.', '/')}"
+        file = next((f for f in (f"{stem}.antt", f"{stem}/Lib.antt") if (self.root / f).is_file()), None)
+        if not file:
+            raise Broken(f"{stem}.antt, named for {name}, is missing")
         found = self.file(file)
         if name in found.own:
             return Place(file, name)
@@ -280,16 +310,28 @@ class Tree:
             return self.place(*found.imports[name])
         raise Broken(f"{file} does not declare {name}")
 
+    def declared(self, crate, path, name):
+        """The struct, enum or constant of a crate's source that stands behind a name below `specs.declared`."""
+        name = name if path[-1] == "TheConstants" else [part for part in path if part != "TheVariants"][-1]
+        for source in sorted((self.root / "crates" / crate / "src").glob("**/*.rt")):
+            text = re.sub(r"//[^\n]*", "", source.read_text(encoding="utf-8"))
+            match = re.search(r"\b(?:struct|enum|const|static) %s\b[^;{]*(?:;|\{[^}]*\})" % re.escape(name), text)
+            if match and re.search(r"\bghost\b", match[0]):
+                raise Broken(f"{name} of {source.relative_to(self.root)} has ghost parts")
+            if match:
+                return Place(SOURCE + crate, name)
+        raise Broken(f"no source of {crate} declares {name}")
+
     def resolve(self, file, word):
         """Where a name that stands in a file is defined; None for the kit's."""
-        for name in (word, file.operators.get(word), file.operators.get(word.strip("_"))):
+        for name in (word, file.operators.get(word), file.operators.get(word.strip("◌"))):
             if name in file.own:
                 return Place(file.name, name)
             if name in file.constructors:
                 return Place(file.name, file.constructors[name].name)
             if name in file.imports:
                 return self.place(*file.imports[name])
-        if word in TACTICS or word in PRELUDE or word.strip("_") in PRELUDE:
+        if word in TACTICS or word in PRELUDE or word.strip("◌") in PRELUDE:
             return None
         raise Broken(f"the name {word} cannot be resolved")
 
@@ -300,7 +342,7 @@ class Tree:
         if word not in file.imports:
             return word in ("yes", "no", "tt")
         module, name = file.imports[word]
-        if module.split(".", 1)[0] in LIBRARIES or ".the-variants" in module:
+        if is_kit(module) or ".TheVariants" in module:
             return True
         place = self.place(module, name)
         return name in self.file(place.file).constructors if place and not place.file.startswith(SOURCE) else False
@@ -433,7 +475,7 @@ class Tree:
                     place = self.place(".".join([file.aliases[plain], *path[1:-1]]), path[-1])
                     out += [place] if place else []
                     k = j + 1
-                elif bare and len(path) > 1 and plain.startswith("Rattle·"):
+                elif bare and len(path) > 2 and plain in ("Rattle", "package"):
                     place = self.place(".".join(path[:-1]), path[-1])
                     out += [place] if place else []
                     k = j + 1
@@ -510,18 +552,20 @@ class Check:
         self.tree = Tree(root)
         self.faults, self.statements, self.reached, self.shorthands, self.sources = [], 0, {}, [], set()
         names = self.tree.names()
-        if DEMANDS not in names:
-            self.faults.append(f"{DEMANDS} is missing")
+        for crate in STATED:
+            found = [name for name in stated(crate) if name in names]
+            if len(found) != 1 and (crate == next(iter(STATED)) or (root / "crates" / crate).is_dir()):
+                self.faults.append(f"{STATED[crate]}.antt of {crate} {'stands twice' if found else 'is missing'}")
         for name in names:
             leading = (root / name).read_text(encoding="utf-8")
-            if name == DEMANDS or STATEMENTS in leading or DEFINITIONS in leading:
+            if is_stated(name) or STATEMENTS in leading or DEFINITIONS in leading:
                 try:
                     file = self.tree.file(name)
                     if file.is_definitions():
                         self.definitions_only(file)
                     if file.is_statements():
                         self.follow(file)
-                    if file.name == DEMANDS:
+                    if file.name in stated("demands"):
                         self.cites(file)
                 except Broken as fault:
                     self.faults.append(f"{name}: {fault}")
@@ -533,9 +577,17 @@ class Check:
         for item in file.items:
             if not item.is_definition():
                 self.faults.append(f"{file.name}:{item.line}: {item.name} is {item.what()}, in a file of definitions only")
-            words = [w.text for c in item.clauses for part in (c, *(d for h in c.helpers for d in h.clauses)) for w in part.right]
-            for word in sorted(TACTICS.intersection(words)):
+            for word in sorted(TACTICS.intersection(self.words(item)).difference(file.hidden())):
                 self.faults.append(f"{file.name}:{item.line}: {item.name} is made with `{word}`, in a file of definitions only")
+
+    def words(self, item):
+        """The words of an item's type, members and right sides, and of its helpers'."""
+        for part in (item, *item.members):
+            yield from (word.text for word in part.type)
+        for clause in item.clauses:
+            yield from (word.text for word in clause.right)
+            for helper in clause.helpers:
+                yield from self.words(helper)
 
     def follow(self, file):
         """From the types of a file's public statements to every definition that they reach, the nearest first."""
@@ -578,24 +630,35 @@ class Check:
                 self.faults.append(f"{file.name}: {way}: {place.file}: {fault}")
 
     def cites(self, file):
-        """Every public statement is proved by one citation: another file's proof, applied."""
+        """Every public statement is proved by one citation: another file's proof, applied, or a part of what that proves."""
         for item in file.items:
             if item.kind != "plain" or "pub" not in item.marks or item.is_definition():
                 continue
             texts = [w.text for clause in item.clauses for w in clause.left[1:] + clause.right]
             steps = sorted(STEPS.intersection(texts))
-            head = item.clauses[0].right[:3] if len(item.clauses) == 1 else []
+            proof = self.whole(item.clauses[0].right) if len(item.clauses) == 1 else []
+            head = proof[:3]
             why = None
             if len(item.clauses) != 1 or item.clauses[0].helpers:
                 why = "it has cases or helpers"
             elif steps:
                 why = "it holds " + ", ".join(f"`{s}`" for s in steps)
-            elif not head or head[0].text in RESERVED:
-                why = "it does not begin with the name of a proof"
+            elif not head or head[0].text in RESERVED or top(proof, {",", ";"}) is not None:
+                why = "it does not begin with the name of a proof, or is put together"
             elif not (len(head) == 3 and head[1].text == "." and head[0].text in file.aliases) and head[0].text not in file.imports:
                 why = f"{head[0].text} is no proof of another file"
             if why:
                 self.faults.append(f"{file.name}:{item.line}: {item.name} is not proved by one citation: {why}")
+
+    @staticmethod
+    def whole(words):
+        """What `(..).f` is a part of: the words in its brackets; else the words themselves."""
+        if words and words[0].text == "(":
+            close = 1 + (top(words[1:] + [Token(")", False, 0)], {")"}) or 0)
+            fields = [w.text for w in words[close + 1:]]
+            if fields and set(fields[::2]) == {"."} and len(fields) % 2 == 0:
+                return words[1:close]
+        return words
 
     def files(self):
         """The files in which what is reached stands, with the names."""
@@ -626,13 +689,14 @@ def report(check, listed):
 
 # ---- small trees, each with the words of the fault that it must give, or with None
 
+DEMANDS, DEFS, MORE, LAWS = (f"crates/{f}.antt" for f in ("demands/specs/Demands", "a/specs/Defs", "a/specs/More", "a/proofs/Laws"))
+PLAN = "crates/a/src/lib.rt"
 GOOD = {
     DEMANDS: """-- Statements; each cites its proof.
-use mathlib.Core.Path.{_≡_}
-use Prim.Native.Nat.{ℕ, _<_}
-use Rattle·a.specs.Defs.{Small, Way, twice}
-use Rattle·a.specs.Laws as laws
-use Rattle·a.specs.declared.Plan.{Plan}
+use Rattle.std.specs.Prelude.{◌≡◌, ℕ, ◌<◌}
+use Rattle.a.specs.Defs.{Small, Way, twice}
+use Rattle.a.proofs.Laws as laws
+use Rattle.a.specs.declared.Plan.{Plan}
 
 module _ (pl : Plan) where
   abbrev pub four : ℕ
@@ -640,14 +704,17 @@ module _ (pl : Plan) where
 
   pub small : (n : ℕ) → Small n → Way n four → twice n < four
   small = laws.small pl
+
+  pub part : (n : ℕ) → n ≡ pl.nodes
+  part n = (laws.parts pl (laws.small pl n)).0.1
 """,
-    "crates/a/specs/Defs.antt": """-- Numbers. Definitions only.
-use Prim.Native.Nat.{ℕ, zero, suc, _+_, _<_}
-use Rattle·a·specs.specs.More.{bound, helped}
+    DEFS: """-- Numbers. Definitions only.
+use Rattle.std.specs.Prelude.{ℕ, zero, suc, ◌+◌, ◌<◌}
+use Rattle.a.specs.More.{bound, helped}
 
 -- below the bound
 pub record Small (n : ℕ) : Type 0 where
-  pub twice-lt : n < bound
+  pub twice_lt : n < bound
 
 pub data Way : ℕ → ℕ → Type 0 where
   done : {n : ℕ} → Way n n
@@ -658,8 +725,8 @@ module _ (a b : ℕ) where
   twice zero = zero
   twice (suc n) = let law = n + n in suc (suc (helped law))
 """,
-    "crates/a/specs/More.antt": """-- Definitions only.
-use Prim.Native.Nat.{ℕ}
+    MORE: """-- Definitions only.
+use Rattle.std.specs.Prelude.{ℕ}
 
 abbrev pub bound : ℕ
 bound = 2
@@ -670,10 +737,10 @@ helped n = go n
     go : ℕ → ℕ
     go m = m
 """,
-    "crates/a/specs/Laws.antt": """-- Proofs.
-use Prim.Native.Nat.{ℕ, _<_}
-use Rattle·a·specs.specs.Defs.{Small, Way, twice}
-use Rattle·a·specs.specs.declared.Plan.{Plan}
+    LAWS: """-- Proofs.
+use Rattle.std.specs.Prelude.{◌≡◌, ℕ, ◌<◌}
+use Rattle.a.specs.Defs.{Small, Way, twice}
+use Rattle.a.specs.declared.Plan.{Plan}
 
 pub law : ℕ
 law = 3
@@ -681,43 +748,83 @@ law = 3
 pub small : (pl : Plan) (n : ℕ) → Small n → twice n < 4
 small pl n s = omega s
 """,
+    PLAN: """// a plan
+pub struct Plan {
+    pub nodes: u16,
+}
+""",
 }
 
-MORE, DEFS = "crates/a/specs/More.antt", "crates/a/specs/Defs.antt"
 TREES = [
     ("nothing wrong", None, []),
-    ("a variable spelled like a lemma", None, [(DEFS, "-- below", "use Rattle·a·specs.specs.Laws.{law}\n\n-- below")]),
+    ("a variable spelled like a lemma", None, [(DEFS, "-- below", "use Rattle.a.proofs.Laws.{law}\n\n-- below")]),
     ("the lemma where the variable is not known", "small > twice > law: law is a theorem",
-     [(DEFS, "-- below", "use Rattle·a·specs.specs.Laws.{law}\n\n-- below"), (DEFS, "let law = n + n in", "let law = law + n in")]),
+     [(DEFS, "-- below", "use Rattle.a.proofs.Laws.{law}\n\n-- below"), (DEFS, "let law = n + n in", "let law = law + n in")]),
+    ("a lemma by its whole path", "small > Small > law: law is a theorem", [(DEFS, "n < bound", "n < Rattle.a.proofs.Laws.law")]),
     ("a reached definition beside a lemma", "helped (unfoldable) stands in no file of definitions only",
      [(MORE, "-- Definitions only.", "-- Definitions."), (MORE, "abbrev pub bound", "pub lemma : ℕ\nlemma = 1\n\nabbrev pub bound")]),
     ("a missing marker", "small > Small > bound: bound (abbrev) stands in no file of definitions only", [(MORE, "-- Definitions only.\n", "")]),
     ("a marker below the leading comment", "stands in no file of definitions only", [(DEFS, "-- Numbers. Definitions only.\n", ""), (DEFS, "-- below", "-- Definitions only. below")]),
+    ("a definition among proofs", "small > Small > near: near (unfoldable) stands in no file of definitions only: crates/a/proofs/Laws.antt",
+     [(LAWS, "pub law", "unfoldable pub near : ℕ\nnear = 2\n\npub law"), (DEFS, "-- below", "use Rattle.a.proofs.Laws.{near}\n\n-- below"), (DEFS, "n < bound", "n < near")]),
+    ("a file of definitions only below proofs", None,
+     [(LAWS, "-- Proofs.", "-- Definitions only."), (LAWS, "pub law", "abbrev pub law"), (LAWS, "pub small", "abbrev pub small"), (LAWS, "= omega s", "= s"),
+      (DEFS, "-- below", "use Rattle.a.proofs.Laws.{law}\n\n-- below"), (DEFS, "n < bound", "n < law")]),
     ("a lemma in a file of definitions only", "lemma is a theorem, or a definition with no mark, in a file of definitions only",
      [(MORE, "abbrev pub bound", "pub lemma : ℕ\nlemma = 1\n\nabbrev pub bound")]),
     ("a lemma in a section of such a file", "lemma is a theorem", [(DEFS, "  unfoldable pub twice", "  lemma : ℕ\n  lemma = 1\n\n  unfoldable pub twice")]),
     ("a lemma marked as a definition", "bound is made with `omega`", [(MORE, "bound = 2", "bound = omega arith")]),
+    ("another tactic", "bound is made with `grind`", [(MORE, "bound = 2", "bound = grind")]),
+    ("a definition spelled like a tactic", None, [(MORE, "bound = 2", "bound = first_of 2"), (MORE, "unfoldable helped", "abbrev pub first_of : ℕ → ℕ\nfirst_of n = n\n\nunfoldable helped")]),
+    ("a tactic by its path", "bound is made with `grind`", [(MORE, "bound = 2", "bound = Prim.grind")]),
+    ("a tactic brought in", "bound is made with `grind`", [(MORE, "bound = 2", "bound = grind"), (MORE, "{ℕ}\n", "{ℕ}\nuse Prim.{grind}\n")]),
+    ("a tactic in a helper", "helped is made with `search`", [(MORE, "go m = m", "go m = search")]),
+    ("a tactic in a field", "Small is made with `search`", [(DEFS, "n < bound", "n < search bound")]),
     ("a set of rules in such a file", "`ruleset` in a file of definitions only", [(MORE, "abbrev pub bound", "pub ruleset all = (bound)\n\nabbrev pub bound")]),
+    ("an axiom in such a file", "`axiom` in a file of definitions only", [(MORE, "abbrev pub bound", "axiom pub all : ℕ\n\nabbrev pub bound")]),
     ("a theorem in a statement", "law is a theorem", [(DEMANDS, "twice n < four", "twice n < laws.law")]),
     ("a theorem behind a definition", "small > Small > bound > law: law is a theorem",
-     [(MORE, "bound = 2", "bound = law"), (MORE, "{ℕ}\n", "{ℕ}\nuse Rattle·a·specs.specs.Laws.{law}\n")]),
+     [(MORE, "bound = 2", "bound = law"), (MORE, "{ℕ}\n", "{ℕ}\nuse Rattle.a.proofs.Laws.{law}\n")]),
+    ("a theorem among specs", "small > Small > bound > law: law is a theorem",
+     [(MORE, "bound = 2", "bound = law"), (MORE, "{ℕ}\n", "{ℕ}\nuse Rattle.a.specs.Laws.{law}\n"), ("crates/a/specs/Laws.antt", "", "pub law : ℕ\nlaw = 3\n")]),
     ("a record among the statements", "Own (record) stands among the statements",
      [(DEMANDS, "module _", "pub record Own : Type 0 where\n  pub n : ℕ\n\nmodule _"), (DEMANDS, "→ Small n", "→ Own → Small n")]),
     ("a name that is not known", "the name unknown cannot be resolved", [(DEMANDS, "→ Small n", "→ unknown n → Small n")]),
-    ("a file that is not there", "crates/a/specs/Gone.antt, named for twice, is missing", [(DEMANDS, "{Small, Way, twice}", "{Small, Way}\nuse Rattle·a.specs.Gone.{twice}")]),
-    ("another statement file", "crates/a/specs/Laws.antt: small > law: law is a theorem",
-     [("crates/a/specs/Laws.antt", "-- Proofs.", "-- Statements of proofs."), ("crates/a/specs/Laws.antt", "twice n < 4", "twice n < law")]),
+    ("a name of every kind at once", "the name Small cannot be resolved", [(DEMANDS, "Rattle.a.specs.Defs.{Small, Way, twice}", "Rattle.a.specs.Defs.*")]),
+    ("a file that is not there", "crates/a/specs/Gone.antt, named for twice, is missing", [(DEMANDS, "{Small, Way, twice}", "{Small, Way}\nuse Rattle.a.specs.Gone.{twice}")]),
+    ("a crate that is not there", "the module Rattle.b.specs.Defs of twice is not known", [(DEMANDS, "{Small, Way, twice}", "{Small, Way}\nuse Rattle.b.specs.Defs.{twice}")]),
+    ("a module as it was once written", "the module Rattle·a.specs.Defs of twice is not known", [(DEMANDS, "{Small, Way, twice}", "{Small, Way}\nuse Rattle·a.specs.Defs.{twice}")]),
+    ("what a function's proof makes", "crates/a/proofs/f/Goals.antt, named for twice, is missing", [(DEMANDS, "{Small, Way, twice}", "{Small, Way}\nuse Rattle.a.proofs.f.Goals.{twice}")]),
+    ("a struct that is not there", "no source of a declares Plan", [(PLAN, "Plan {", "Another {")]),
+    ("a struct with ghost parts", "Plan of crates/a/src/lib.rt has ghost parts", [(PLAN, "    pub nodes", "    ghost law: { law }\n    pub nodes")]),
+    ("another statement file", "crates/a/proofs/Laws.antt: small > law: law is a theorem",
+     [(LAWS, "-- Proofs.", "-- Statements of proofs."), (LAWS, "twice n < 4", "twice n < law")]),
+    ("a statement file of another crate", "crates/judge/specs/Theorems.antt: sound > lemma: lemma is a theorem",
+     [("crates/judge/specs/Theorems.antt", "", "lemma : Type 0\nlemma = Unit {0}\n\npub sound : lemma\nsound = tt\n")]),
+    ("the same below proofs", "crates/judge/proofs/Theorems.antt: sound > lemma: lemma is a theorem",
+     [("crates/judge/proofs/Theorems.antt", "", "lemma : Type 0\nlemma = Unit {0}\n\npub sound : lemma\nsound = tt\n")]),
+    ("a statement file that is gone", "Theorems.antt of judge is missing", [("crates/judge/specs/Lib.antt", "", "-- nothing\n")]),
+    ("two statement files", "Theorems.antt of judge stands twice",
+     [(f"crates/judge/{below}/Theorems.antt", "", "pub sound : Unit {0}\nsound = tt\n") for below in BELOW]),
     ("a proof of several steps", "small is not proved by one citation: it holds `let`", [(DEMANDS, "small = laws.small pl", "small = let p = pl in laws.small p")]),
-    ("a proof put together", "small is not proved by one citation: it does not begin with the name of a proof", [(DEMANDS, "laws.small pl", "(laws.small pl, pl)")]),
+    ("a proof by a tactic", "small is not proved by one citation: it holds `grind`", [(DEMANDS, "small = laws.small pl", "small = grind laws.small")]),
+    ("a proof put together", "small is not proved by one citation: it does not begin with the name of a proof", [(DEMANDS, "small = laws.small pl", "small = (laws.small pl, pl)")]),
+    ("a part of a proof put together", "part is not proved by one citation: it does not begin with the name of a proof",
+     [(DEMANDS, "(laws.parts pl (laws.small pl n)).0.1", "(laws.parts pl, laws.small pl n).0")]),
+    ("a part, applied", "part is not proved by one citation: it does not begin with the name of a proof",
+     [(DEMANDS, "(laws.parts pl (laws.small pl n)).0.1", "(laws.parts pl).0 n")]),
     ("a lemma among the statements", "lemma is no proof of another file",
-     [(DEMANDS, "  pub small", "  lemma : ℕ\n  lemma = laws.law\n\n  pub small"), (DEMANDS, "laws.small pl", "lemma")]),
+     [(DEMANDS, "  pub small", "  lemma : ℕ\n  lemma = laws.law\n\n  pub small"), (DEMANDS, "small = laws.small pl", "small = lemma")]),
     ("a definition passed on by a file of proofs", None,
-     [(DEFS, "specs.More.{bound, helped}", "specs.More.{helped}\nuse Rattle·a·specs.specs.Laws.{bound}"),
-      ("crates/a/specs/Laws.antt", "use Prim", "unfoldable pub use Rattle·a·specs.specs.More.{bound}\nuse Prim")]),
+     [(DEFS, "specs.More.{bound, helped}", "specs.More.{helped}\nuse Rattle.a.proofs.Laws.{bound}"),
+      (LAWS, "use Rattle.std", "unfoldable pub use Rattle.a.specs.More.{bound}\nuse Rattle.std")]),
     ("a lemma passed on by a file of definitions only", "law is a theorem",
-     [(MORE, "use Prim", "pub use Rattle·a·specs.specs.Laws.{law}\nuse Prim"),
+     [(MORE, "use Rattle.std", "pub use Rattle.a.proofs.Laws.{law}\nuse Rattle.std"),
       (DEFS, "specs.More.{bound, helped}", "specs.More.{bound, helped, law}"), (DEFS, "n < bound", "n < law")]),
-    ("no statements", "Demands.antt is missing", [(DEMANDS, None, None)]),
+    ("no statements", "Demands.antt of demands is missing", [(DEMANDS, None, None)]),
+    ("the demands below proofs", None, [(DEMANDS, None, None), ("crates/demands/proofs/Demands.antt", "", GOOD[DEMANDS])]),
+    ("the demands below proofs, with a proof of several steps", "part is not proved by one citation: it holds `search`",
+     [(DEMANDS, None, None), ("crates/demands/proofs/Demands.antt", "", GOOD[DEMANDS].replace("(laws.parts", "search (laws.parts"))]),
 ]
 
 
@@ -728,6 +835,8 @@ def selftest():
         for name, old, new in edits:
             if old is None:
                 del files[name]
+            elif old == "":
+                files[name] = new
             else:
                 if files[name].count(old) < 1:
                     sys.exit(f"self-test: {title}: {old!r} is not in {name}")

@@ -76,10 +76,15 @@ def definitions_missing(cell):
     if len(ticked(cell)) != sum(len(ticked(names)) + 1 for names, _, _ in groups) or not groups:
         yield f"not of the form `name` (`crate/File`): {cell}"
     for names, crate, file in groups:
-        text = read(ROOT / "crates" / crate / "specs" / (file + ".antt"))
+        places = [ROOT / "crates" / crate / below / (file + ".antt") for below in ("specs", "proofs")]
+        found = [path for path in places if path.is_file()]
+        if len(found) != 1:
+            yield f"{crate}/{file} is {'two files' if found else 'no file'} of specs/ and proofs/"
+            continue
+        text = re.sub(r"(^|\s)--.*", "", read(found[0]))
         for name in ticked(names):
-            if not re.search(r"^\s*(?:(?:unfoldable|abbrev|pub|record) )*%s (?:\(.*\) )?:" % re.escape(name), text, re.M):
-                yield f"{crate}/specs/{file}.antt does not define {name}"
+            if not re.search(r"^\s*(?:(?:pattern|unfoldable|abbrev|pub|record|data) )*%s (?:\(.*\) )?:" % re.escape(name), text, re.M):
+                yield f"{found[0].relative_to(ROOT)} does not define {name}"
 
 
 def edits_missing(cell):
