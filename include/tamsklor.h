@@ -3,8 +3,8 @@
 
    `./install PREFIX` puts this header, tamsklor_text.h, the archive
    libtamsklor.a (x86-64 Linux) and a pkg-config file below PREFIX; without it,
-   link with target/staticlib/libtamsklor.a, which `rt staticlib tamsklor`
-   writes. tamsklor_text.h has words for every number below.
+   link with crates/tamsklor_c/out/libtamsklor_c.a, which `rt lib --cpu x86-64`
+   in crates/tamsklor_c writes. tamsklor_text.h has words for every number below.
 
    Names: the structs are those of the Rattle source with Tamsklor before the
    name, their fields are named alike and lie in the same order.

@@ -2,13 +2,15 @@
 
 Each struct TamsklorNAME of the header is the #[repr(C)] struct NAME of the
 source: the same fields, in the same order, of the same types and lengths, and
-the functions that the source exports are those that the header declares.
+the functions that the source exports are those that the header declares. Each
+export takes and answers what the library's function of its name does.
 """
 import re
 import sys
 from pathlib import Path
 
 SOURCES = ["plan", "machine", "tamsklor"]
+LIBRARY, EXPORTS = "tamsklor", "tamsklor_c"
 NUMBERS = {"uint8_t": "u8", "uint16_t": "u16", "uint32_t": "u32"}
 PREFIX = "Tamsklor"
 
@@ -46,13 +48,20 @@ def header_structs(header):
 
 
 def source_structs(source):
-    pattern = r"#\[repr\(C\)\]\s*pub struct (\w+) \{(.*?)\}"
+    pattern = r"#\[repr\(C\)\]\s*(?:#\[derive\([\w, ]*\)\]\s*)?pub struct (\w+) \{(.*?)\}"
     return {name: re.findall(r"pub (\w+): ([^,]*),", body) for name, body in re.findall(pattern, source, flags=re.S)}
+
+
+def source_functions(source, before):
+    """Name: parameters, result and clauses of each public function with these words before `fn`."""
+    found = re.findall(rf"^{before}fn (tamsklor_\w+)(.*?)\n\{{$", source, flags=re.M | re.S)
+    return {name: " ".join(signature.split()) for name, signature in found}
 
 
 def main():
     header = bare(Path("include/tamsklor.h").read_text())
-    source = "".join(bare(Path(f"crates/{name}/src/lib.rt").read_text()) for name in SOURCES)
+    sources = {name: bare(Path(f"crates/{name}/src/lib.rt").read_text()) for name in [*SOURCES, EXPORTS]}
+    source = "".join(sources[name] for name in SOURCES)
     ours, theirs = header_structs(header), source_structs(source)
     wrong = 0
     for name in sorted(ours):
@@ -60,10 +69,15 @@ def main():
             print(f"{name}: {ours[name]} in the header, {theirs.get(name)} in the source")
             wrong += 1
     declared = set(re.findall(r"\b(tamsklor_\w+)\(", header))
-    exported = set(re.findall(r'pub extern "C" fn (\w+)', source))
-    if declared != exported:
+    exported = source_functions(sources[EXPORTS], r'#\[unsafe\(no_mangle\)\]\npub extern "C" ')
+    if declared != set(exported):
         print(f"functions: {sorted(declared)} in the header, {sorted(exported)} in the source")
         wrong += 1
+    behind = source_functions(sources[LIBRARY], "pub ")
+    for name in sorted({**exported, **behind}):
+        if exported.get(name) != behind.get(name):
+            print(f"{name}: {exported.get(name)} exported, {behind.get(name)} in the library")
+            wrong += 1
     fields = sum(len(struct) for struct in ours.values())
     print(f"structs of the header: {len(ours)}, fields {fields}, functions {len(declared)}, differing {wrong}")
     return 1 if wrong or len(ours) < 8 else 0

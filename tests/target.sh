@@ -1,18 +1,21 @@
-# Sourced: how C programs are built with the archive and run. The archive is
-# for x86-64; on another processor the programs are too, and run under the
-# kit's emulator.
+# Sourced: how C programs are built with the archive and run, and where the
+# proved programs stand. Both are for x86-64, as the kit is; on another processor
+# the C programs are too, and all run under an emulator, qemu-x86_64 where it is
+# there.
 #
 #   target_compile DIR FLAGS FILE..   object files into DIR
 #   target_link PROGRAM FLAGS FILE..  links object files and archives
 #   target_run PROGRAM ARGUMENT..     runs it
+#   target_program NAME               the file of a proved program
+#   target_need NAME..                fails where one is not built
 #
 # TARGET chooses the way: native (x86-64), cross (Debian's cross compiler) or
 # kit (the kit's clang and linker, with the headers of cc). CC chooses the
 # native compiler.
 target_kit=$(dirname "$(dirname "$(readlink -f "$(command -v rt)")")")
-target_tools=$target_kit/on/$(uname -m)/toolchain
-target_emulator=$target_tools/bin/qemu-x86_64
-[ -x "$target_emulator" ] || target_emulator=
+target_tools=$target_kit/toolchain
+target_emulator=
+[ "$(uname -m)" = x86_64 ] || target_emulator=$(command -v qemu-x86_64 || true)
 
 if [ -z "${TARGET:-}" ]; then
     TARGET=kit
@@ -66,7 +69,7 @@ target_link() { # PROGRAM FLAGS FILE..
     native) "$target_compiler" $target_flags "$@" -o "$target_program" ;;
     cross) "$target_compiler" -static $target_flags "$@" -o "$target_program" ;;
     kit)
-        target_said=$("$target_kit/on/$(uname -m)/bin/rattle-link" --target x86_64-unknown-linux-gnu \
+        target_said=$("$target_kit/bin/rattle-link" --target x86_64-unknown-linux-gnu \
             --toolchain "$target_tools" -o "$target_program" "$@" 2>&1) || {
             printf '%s\n' "$target_said" >&2
             return 1
@@ -84,4 +87,15 @@ target_run() { # PROGRAM ARGUMENT..
             --library-path "$target_tools/lib" "$@"
         ;;
     esac
+}
+
+target_program() { # NAME
+    printf 'crates/%s/out/%s\n' "$1" "$1"
+}
+
+target_need() { # NAME..
+    for target_name in "$@"; do
+        [ -x "$(target_program "$target_name")" ] ||
+            fail "there is no $(target_program "$target_name"): rt run in crates/$target_name makes it"
+    done
 }

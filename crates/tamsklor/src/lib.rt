@@ -1,5 +1,6 @@
 #![tactic(auto)]
-// What the recorder's host in C calls: the plan check, the plan of an image, and a run by single calls. Numbers and arrays only.
+// What the recorder's host in C is handed: the plan check, the plan of an image, and a run by single calls. Numbers and arrays only.
+// The crate `tamsklor_c` exports each public function of this one under its own name.
 ghost use Rattle.std.specs.Prelude.{◌≡◌};
 ghost use Rattle.reader.specs.Tests.{verdict, read_of};
 ghost use Rattle.machine.specs.Calls.{begin_run, step_call, reading_call};
@@ -122,8 +123,7 @@ fn as_token_answer(level: Level) -> TokenAnswer
 }
 
 // One call on a plan and a state by value: the answer as numbers, and the state that it leaves.
-#[unsafe(no_mangle)]
-pub extern "C" fn tamsklor_run_stepped(
+pub fn tamsklor_run_stepped(
     plan: Plan,
     state: State,
     code: u32,
@@ -142,8 +142,7 @@ pub extern "C" fn tamsklor_run_stepped(
 }
 
 // The plan check over the image's bytes.
-#[unsafe(no_mangle)]
-pub extern "C" fn tamsklor_plan_check(image: &[u8]) -> Verdict
+pub fn tamsklor_plan_check(image: &[u8]) -> Verdict
     ensures { result ≡ numbers_of (verdict image.now) }
 {
     let reading = reader::read(image);
@@ -169,8 +168,7 @@ pub extern "C" fn tamsklor_plan_check(image: &[u8]) -> Verdict
 }
 
 // The plan of an image beside the plan check's numbers; all 0 after a refusal.
-#[unsafe(no_mangle)]
-pub extern "C" fn tamsklor_plan_read(image: &[u8]) -> PlanRead
+pub fn tamsklor_plan_read(image: &[u8]) -> PlanRead
     ensures { result ≡ numbers_of_read (read_of image.now) }
 {
     let reading = reader::read(image);
@@ -211,16 +209,14 @@ fn begin_by_value(plan: Plan) -> Begun
 }
 
 // Beginning a run of the host's plan.
-#[unsafe(no_mangle)]
-pub extern "C" fn tamsklor_run_begin<'a>(plan: &'a Plan) -> Begun
+pub fn tamsklor_run_begin<'a>(plan: &'a Plan) -> Begun
     ensures { result ≡ numbers_of_begin (begin_run plan.now) }
 {
     begin_by_value(*plan)
 }
 
 // One call on the host's one state, updated where it stands: open, look or fire by its code.
-#[unsafe(no_mangle)]
-pub extern "C" fn tamsklor_run_step<'a, 'b>(
+pub fn tamsklor_run_step<'a, 'b>(
     plan: &'a Plan,
     state: &'b mut State,
     code: u32,
@@ -242,8 +238,7 @@ fn tokens_by_value(plan: Plan, state: State, edge: u32) -> TokenAnswer
 }
 
 // The token reading of an edge on the host's plan and state. Neither is changed.
-#[unsafe(no_mangle)]
-pub extern "C" fn tamsklor_run_tokens<'a, 'b>(
+pub fn tamsklor_run_tokens<'a, 'b>(
     plan: &'a Plan,
     state: &'b State,
     edge: u32,
@@ -254,8 +249,7 @@ pub extern "C" fn tamsklor_run_tokens<'a, 'b>(
 }
 
 // The version: 10,000 times the major number, 100 times the minor number and the patch number.
-#[unsafe(no_mangle)]
-pub extern "C" fn tamsklor_version() -> u32
+pub fn tamsklor_version() -> u32
     ensures { result ≡ version }
 {
     200
