@@ -7,7 +7,7 @@ ghost use Rattle.entries.specs.Answer.{order_answer, tables_answer};
 ghost use Rattle.plan.specs.Tests.{outside, bad_counts, zero_length, bad_order, bad_node, not_above, not_rising, bad_edge};
 
 // What tests 5 to 8 answer: they passed, or the refusal's number and place.
-#[derive(Drop)]
+#[derive(Clone, Copy)]
 pub enum Checked {
     Passed,
     Refused { number: u32, place: u32 },

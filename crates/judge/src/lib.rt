@@ -11,7 +11,7 @@ ghost use Rattle.judge.specs.Lent.{EdgesOk, CountersOk};
 use entries::Checked;
 
 // What is answered of a plan: Q, N and the least modulus, or a number and a place.
-#[derive(Drop)]
+#[derive(Clone, Copy)]
 pub enum Answer {
     Accepted { q: u32, modulus: u32, least: u32 },
     Refused { number: u32, place: u32 },

@@ -7,7 +7,7 @@ ghost use Rattle.plan.specs.Value.{base, share};
 ghost use Rattle.plan.specs.Tests.{process_at};
 
 #[repr(C)]
-#[derive(Drop)]
+#[derive(Clone, Copy)]
 pub struct Plan {
     pub nodes: u16,
     pub processes: u16,

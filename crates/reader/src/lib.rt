@@ -9,7 +9,7 @@ use judge::Answer;
 use plan::Plan;
 
 // The answer, and beside it the plan: all 0 after a refusal.
-#[derive(Drop)]
+#[derive(Clone, Copy)]
 pub struct ReadPlan {
     pub answer: Answer,
     pub plan: Plan,

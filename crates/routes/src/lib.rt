@@ -8,7 +8,7 @@ ghost use Rattle.routes.specs.Relaxing.{Low, EndsInRow};
 pub const NO_ROUTE: u32 = 100000;
 
 // A row after a sweep, and by how much the sum of its entries has fallen.
-#[derive(Drop)]
+#[derive(Clone, Copy)]
 pub struct Sweep {
     pub row: [u32; 64],
     pub drop: u32,

@@ -11,7 +11,7 @@ use plan::Plan;
 
 // The plan check's answer: the refusal's number (0: accepted), its place, and the least modulus (0 after a refusal).
 #[repr(C)]
-#[derive(Drop)]
+#[derive(Clone, Copy)]
 pub struct Verdict {
     pub number: u32,
     pub place: u32,
@@ -20,7 +20,7 @@ pub struct Verdict {
 
 // The reader's answer: the plan check's numbers, and the plan beside them, all 0 after a refusal.
 #[repr(C)]
-#[derive(Drop)]
+#[derive(Clone, Copy)]
 pub struct PlanRead {
     pub number: u32,
     pub place: u32,
@@ -30,7 +30,7 @@ pub struct PlanRead {
 
 // The answer to beginning a run: 0 or the refusal's number, and the state, all 0.
 #[repr(C)]
-#[derive(Drop)]
+#[derive(Clone, Copy)]
 pub struct Begun {
     pub number: u32,
     pub state: State,
@@ -38,7 +38,7 @@ pub struct Begun {
 
 // A call's answer: kind 0 refused (value: the number), 1 opened (edges to see), 2 found (edges left), 3 wait (edges left), 4 fired (the node).
 #[repr(C)]
-#[derive(Drop)]
+#[derive(Clone, Copy)]
 pub struct CallAnswer {
     pub kind: u32,
     pub value: u32,
@@ -46,7 +46,7 @@ pub struct CallAnswer {
 
 // A call's answer beside the state that it leaves.
 #[repr(C)]
-#[derive(Drop)]
+#[derive(Clone, Copy)]
 pub struct Stepped {
     pub answer: CallAnswer,
     pub state: State,
@@ -54,7 +54,7 @@ pub struct Stepped {
 
 // A token reading's answer: the refusal's number (0: read) and the tokens (0 after a refusal).
 #[repr(C)]
-#[derive(Drop)]
+#[derive(Clone, Copy)]
 pub struct TokenAnswer {
     pub number: u32,
     pub count: u32,
@@ -64,7 +64,7 @@ pub struct TokenAnswer {
 const NO_LEAST: u32 = 0;
 
 // Number and place of an answer, both 0 for an accepted plan.
-#[derive(Drop)]
+#[derive(Clone, Copy)]
 struct Outcome {
     number: u32,
     place: u32,

@@ -13,7 +13,7 @@ ghost use Rattle.transcript.specs.Printing.{Answers};
 use judge::Answer;
 
 // What `transcript` answers: the length of the text that it wrote, or the length that the buffer is too short for.
-#[derive(Drop)]
+#[derive(Clone, Copy)]
 pub enum Printed {
     Whole { length: usize },
     TooShort { needed: usize },

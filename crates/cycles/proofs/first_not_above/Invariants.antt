@@ -1,0 +1,16 @@
+use Rattle.std.proofs.Common.{◌-◌, ◌≡◌, ◌+◌, ◌*◌, ◌<◌, ◌≤◌, max, eqb, ℕ, length}
+use Rattle.loops.specs.Choice.{at, if}
+use Rattle.loops.specs.First.{first, First, firsts}
+use Rattle.loops.specs.Any.{any}
+use Rattle.loops.specs.Row.{stored}
+use Rattle.loops.specs.Table.{padded}
+use Rattle.routes.specs.Rows.{no_route}
+use Rattle.routes.specs.Relaxing.{Low, EndsInRow}
+use Rattle.cycles.specs.Lent.{loop_sum_in, entered, free_in, closes_free_in, on_free_cycle_in, no_way_back_in, not_above_in, asks_in, most_asked, Known, Small}
+use Rattle.cycles.proofs.first_not_above.Given as goal
+
+abbrev pub invariant-loop-e : goal.invariant-loop-e
+invariant-loop-e l = First (not_above_in l.crossing l.sums l.modulus (λ d. l.q)) l.edges l.e
+
+abbrev pub decreases-loop-e : goal.decreases-loop-e
+decreases-loop-e l = l.edges - l.e

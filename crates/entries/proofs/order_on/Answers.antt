@@ -1,0 +1,33 @@
+use Rattle.std.proofs.Common.{rules, ◌≡◌, [], ◌<◌, ◌≤◌, ℕ, ◌+◌, ◌-◌, ◌*◌, length, ◌/◌, ◌%◌, Bool, true, false, nat_eq, nat_lt, List, ◌∷◌, ◌++◌, slice_index_or, slice_set, bit_and, bit_or, Fits, w8, w32, w64, Bor, MutBor, arith}
+use Rattle.loops.specs.First.{first}
+use Rattle.plan.specs.Value.{plan_with}
+use Rattle.entries.specs.Answer.{order_answer, tables_answer}
+use Rattle.plan.specs.Tests.{outside, bad_counts, zero_length, bad_order, bad_node, not_above, not_rising, bad_edge, order_then}
+use Rattle.std.proofs.lemmas.Grind.{common_steps}
+use mathlib.Core.Path.{refl}
+use Rattle.plan.specs.Refusing.{refused_here, passed_here}
+use Rattle.entries.proofs.order_on.Goals as goal
+
+pub returns-then-position-nodes : goal.returns-then-position-nodes
+unfolding order_answer order_then
+returns-then-position-nodes c = refused_here _ _ _ _ _ _ _ c.refused.ensures c.first_bad_order-position.ensures c.if-position-nodes.true
+
+pub returns-then-node-nodes : goal.returns-then-node-nodes
+unfolding order_answer order_then
+returns-then-node-nodes c =
+    passed_here _ _ _ _ _ _ _ c.first_bad_order-position.ensures c.if-position-nodes.false
+    (refused_here _ _ _ _ _ _ _ c.refused-then-node-nodes.ensures c.first_bad_node-node.ensures c.if-node-nodes.true)
+
+pub returns-then-edge-edges : goal.returns-then-edge-edges
+unfolding order_answer order_then
+returns-then-edge-edges c =
+    passed_here _ _ _ _ _ _ _ c.first_bad_order-position.ensures c.if-position-nodes.false
+    (passed_here _ _ _ _ _ _ _ c.first_bad_node-node.ensures c.if-node-nodes.false
+    (refused_here _ _ _ _ _ _ _ c.refused-then-edge-edges.ensures c.first_bad_edge-edge.ensures c.if-edge-edges.true))
+
+pub returns : goal.returns
+unfolding order_answer order_then
+returns c =
+    passed_here _ _ _ _ _ _ _ c.first_bad_order-position.ensures c.if-position-nodes.false
+    (passed_here _ _ _ _ _ _ _ c.first_bad_node-node.ensures c.if-node-nodes.false
+    (passed_here _ _ _ _ _ _ _ c.first_bad_edge-edge.ensures c.if-edge-edges.false refl))

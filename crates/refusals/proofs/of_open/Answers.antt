@@ -1,0 +1,18 @@
+use Rattle.std.proofs.Common.{rules, ◌≡◌, ◌<◌, ◌≤◌, ℕ, ◌+◌, ◌-◌, ◌*◌, length, ◌/◌, ◌%◌, Bool, true, false, nat_eq, nat_lt, List, [], ◌∷◌, ◌++◌, slice_index_or, slice_set, bit_and, bit_or, Fits, w8, w32, w64, Bor, MutBor, arith}
+use Rattle.refusals.specs.Numbers.{marked_in, open_number, look_number, fire_number, call_number}
+use Rattle.std.proofs.lemmas.Grind.{common_steps}
+use Rattle.loops.specs.Choice.{ifs}
+use Rattle.refusals.specs.Limits.{limits}
+use Rattle.refusals.proofs.of_open.Goals as goal
+
+pub returns-then-to_word-process : goal.returns-then-to_word-process
+unfolding open_number
+returns-then-to_word-process c = search (rules, ifs, limits)
+
+pub returns-then-opened-process-eq0 : goal.returns-then-opened-process-eq0
+unfolding open_number
+returns-then-opened-process-eq0 c = search (rules, ifs, limits)
+
+pub returns-else-opened-process-eq0 : goal.returns-else-opened-process-eq0
+unfolding open_number
+returns-else-opened-process-eq0 c = search (rules, ifs, limits)
