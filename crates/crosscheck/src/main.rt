@@ -5,6 +5,8 @@
 // The stored stream is what second/stored.c writes, and the stored answers are those of second/stream.c to it (second/README.md).
 ghost use Rattle.std.specs.Prelude.{◌≡◌, ◌≤◌, length};
 
+use std::io::{Read, Write};
+use std::time::Clock;
 use streams::Got;
 use transcript::Printed;
 
@@ -14,11 +16,6 @@ enum Next {
     Case { length: usize },
     End,
 }
-
-// No call can meet this: where it stands nothing comes by.
-fn never()
-    requires { ⊥ }
-{}
 
 // Room for 65,536 bytes and one more.
 fn input_buffer() -> [u8; 65537]
@@ -35,8 +32,8 @@ fn text_buffer() -> [u8; 409642]
 }
 
 // Reads bytes of the stream, the buffer's length of them: fewer where the stream is cut. A read that fails is told and cuts it, too.
-fn read(buffer: &mut [u8]) -> usize {
-    let got = streams::read_all(buffer, b"crosscheck: cannot read standard input");
+fn read<I: Read>(rt: &(impl Clock + Eprint), input: &mut I, buffer: &mut [u8]) -> usize {
+    let got = streams::read_all(rt, input, buffer, b"crosscheck: cannot read standard input");
     match got {
         Got::Bytes { count } => count,
         Got::Failed => 0,
@@ -44,43 +41,42 @@ fn read(buffer: &mut [u8]) -> usize {
 }
 
 // Writes a text: false where a write fails, which is told.
-fn print(text: &[u8]) -> bool {
-    streams::write_all(text, b"crosscheck: cannot write standard output")
+fn print<O: Write>(rt: &(impl Clock + Eprint), output: &mut O, text: &[u8]) -> bool {
+    streams::write_all(rt, output, text, b"crosscheck: cannot write standard output")
 }
 
 // Writes a number in decimal digits.
-fn print_number(number: u64) -> bool {
+fn print_number<O: Write>(rt: &(impl Clock + Eprint), output: &mut O, number: u64) -> bool {
     let mut digits = [0u8; 20];
     let count = io::decimal(number, &mut digits);
-    print(&digits[..count])
+    print(rt, output, &digits[..count])
 }
 
 // Writes the line of a case.
-fn print_case(number: u64) -> bool {
-    if !print(b"case ") {
+fn print_case<O: Write>(rt: &(impl Clock + Eprint), output: &mut O, number: u64) -> bool {
+    if !print(rt, output, b"case ") {
         return false;
     }
-    if !print_number(number) {
+    if !print_number(rt, output, number) {
         return false;
     }
-    print(b"\n")
+    print(rt, output, b"\n")
 }
 
 // Writes the whole text of an input.
-fn print_text(input: &[u8]) -> bool {
+fn print_text<O: Write>(rt: &(impl Clock + Eprint), output: &mut O, input: &[u8]) -> bool {
     let mut out = text_buffer();
     let printed = transcript::transcript(input, &mut out);
     let Printed::Whole { length } = printed else {
-        never();
-        return false;
+        unreachable!();
     };
-    print(&out[..length])
+    print(rt, output, &out[..length])
 }
 
 // The length of the next case. A stream that is cut in it has come to its end.
-fn next_case() -> Next {
+fn next_case<I: Read>(rt: &(impl Clock + Eprint), input: &mut I) -> Next {
     let mut bytes = [0u8; 4];
-    let got = read(&mut bytes);
+    let got = read(rt, input, &mut bytes);
     if got < 4 {
         return Next::End;
     }
@@ -97,46 +93,50 @@ fn least(a: usize, b: usize) -> usize
 }
 
 // Reads bytes and drops them: false where the stream is cut.
-fn skip(length: usize) -> bool {
-    let mut rest = length;
-    while 0 < rest {
+fn skip<I: Read>(rt: &(impl Clock + Eprint), input: &mut I, length: usize) -> bool {
+    for _ in 0..length {
         let mut dropped = [0u8; 1];
-        let got = read(&mut dropped);
+        let got = read(rt, input, &mut dropped);
         if got < 1 {
             return false;
         }
-        rest -= 1;
     }
     true
 }
 
 // Reads a case, keeping what `planrun` would read, and answers it: false where the stream is cut in it or a write fails.
-fn answer_case(number: u64, length: usize) -> bool {
-    let mut input = input_buffer();
+fn answer_case<I: Read, O: Write>(
+    rt: &(impl Clock + Eprint),
+    input: &mut I,
+    output: &mut O,
+    number: u64,
+    length: usize,
+) -> bool {
+    let mut bytes = input_buffer();
     let kept = least(length, 65537);
-    let got = read(&mut input[..kept]);
+    let got = read(rt, input, &mut bytes[..kept]);
     if got < kept {
         return false;
     }
-    if !skip(length - kept) {
+    if !skip(rt, input, length - kept) {
         return false;
     }
-    if !print_case(number) {
+    if !print_case(rt, output, number) {
         return false;
     }
-    print_text(&input[..kept])
+    print_text(rt, output, &bytes[..kept])
 }
 
 // Answers case after case, to the stream's end.
-fn main() {
-    let mut number: u64 = 0;
-    while number < 18446744073709551615 {
-        let Next::Case { length } = next_case() else {
+fn main(rt: HostRuntime) {
+    let mut input = rt.stdin();
+    let mut output = rt.stdout();
+    for number in 0..u64::MAX {
+        let Next::Case { length } = next_case(&rt, &mut input) else {
             return;
         };
-        if !answer_case(number, length) {
+        if !answer_case(&rt, &mut input, &mut output, number, length) {
             return;
         }
-        number += 1;
     }
 }

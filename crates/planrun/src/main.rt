@@ -1,30 +1,44 @@
 #![tactic(auto)]
 // Reads at most 65,536 bytes of standard input, and one more to notice that there are more, and writes the whole text. A read or a write that
 // fails is told in one line on standard error; after a read that fails nothing else is printed.
+ghost use Rattle.std.specs.Prelude.{IfSome};
+ghost use Rattle.std.specs.Bool.{OnFalse, OnTrue};
+ghost use Rattle.std.specs.Io.KnownBytes.{Appends};
+ghost use Rattle.streams.specs.Held.{AppendsPart};
+ghost use Rattle.transcript.specs.Text.{text_of};
+
+use std::io::{Read, Write};
+use std::time::Clock;
 use streams::Got;
 use transcript::Printed;
 
-// No call can meet this: where it stands nothing comes by.
-fn never()
-    requires { ⊥ }
-{}
-
-// Writes the whole text of an input: the buffer has the length that is proved to be the most.
-fn print_text(input: &[u8]) {
+// Writes the whole text of an input: the buffer has the length that is proved to be the most. False where a write fails.
+fn print_text<O: Write>(rt: &(impl Clock + Eprint), output: &mut O, input: &[u8]) -> bool
+    ensures whole { OnTrue result (Appends (O.contents output.old) (O.contents output.new) (text_of input.now)) }
+    ensures part { OnFalse result (AppendsPart (O.contents output.old) (O.contents output.new) (text_of input.now)) }
+{
     let mut out = [0u8; 409642];
     let printed = transcript::transcript(input, &mut out);
     let Printed::Whole { length } = printed else {
-        never();
-        return;
+        unreachable!();
     };
-    streams::write_all(&out[..length], b"planrun: cannot write standard output");
+    streams::write_all(rt, output, &out[..length], b"planrun: cannot write standard output")
 }
 
-fn main() {
-    let mut input = [0u8; 65537];
-    let got = streams::read_all(&mut input, b"planrun: cannot read standard input");
+// Reads an input to its end, or one byte more than the most, and writes the text of all of it: false where a read or a write fails, when no
+// more than a part of that text was written.
+fn run<I: Read, O: Write>(rt: &(impl Clock + Eprint), input: &mut I, output: &mut O) -> bool
+    ensures whole { OnTrue result (IfSome (I.remaining input.old) (λ bytes. Appends (O.contents output.old) (O.contents output.new) (text_of bytes))) }
+    ensures part { OnFalse result (IfSome (I.remaining input.old) (λ bytes. AppendsPart (O.contents output.old) (O.contents output.new) (text_of bytes))) }
+{
+    let mut buffer = [0u8; 65537];
+    let got = streams::read_all(rt, input, &mut buffer, b"planrun: cannot read standard input");
     let Got::Bytes { count } = got else {
-        return;
+        return false;
     };
-    print_text(&input[..count]);
+    print_text(rt, output, &buffer[..count])
+}
+
+fn main(rt: HostRuntime) {
+    run(&rt, &mut rt.stdin(), &mut rt.stdout());
 }

@@ -6,6 +6,7 @@ use crate::record::{byte_at, number_at, requests_place};
 use crate::text::{put_line, put_word};
 use machine::{Level, Reply, State};
 use plan::Plan;
+use std::time::Clock;
 
 // The state that requests leave, and the offset behind their lines.
 #[derive(Drop)]
@@ -15,34 +16,50 @@ pub struct Answered {
 }
 
 // A call's answer.
-fn put_reply(out: &mut [u8; 65536], offset: usize, reply: Reply) -> usize {
+fn put_reply(
+    rt: &(impl Print + Eprint + Clock),
+    out: &mut [u8; 65536],
+    offset: usize,
+    reply: Reply,
+) -> usize {
     match reply {
-        Reply::Opened { edges } => put_line(out, offset, b"opened ", edges),
-        Reply::Found { left } => put_line(out, offset, b"found ", left),
-        Reply::Wait { left } => put_line(out, offset, b"wait ", left),
-        Reply::Fired { node } => put_line(out, offset, b"fired ", node),
-        Reply::Refused { number } => put_line(out, offset, b"refused ", number),
+        Reply::Opened { edges } => put_line(rt, out, offset, b"opened ", edges),
+        Reply::Found { left } => put_line(rt, out, offset, b"found ", left),
+        Reply::Wait { left } => put_line(rt, out, offset, b"wait ", left),
+        Reply::Fired { node } => put_line(rt, out, offset, b"fired ", node),
+        Reply::Refused { number } => put_line(rt, out, offset, b"refused ", number),
     }
 }
 
 // A token reading's answer.
-fn put_level(out: &mut [u8; 65536], offset: usize, level: Level) -> usize {
+fn put_level(
+    rt: &(impl Print + Eprint + Clock),
+    out: &mut [u8; 65536],
+    offset: usize,
+    level: Level,
+) -> usize {
     match level {
-        Level::Tokens { count } => put_line(out, offset, b"tokens ", count),
-        Level::Unread { number } => put_line(out, offset, b"refused ", number),
+        Level::Tokens { count } => put_line(rt, out, offset, b"tokens ", count),
+        Level::Unread { number } => put_line(rt, out, offset, b"refused ", number),
     }
 }
 
 // A beginning's answer.
-fn put_began(out: &mut [u8; 65536], offset: usize, number: u32) -> usize {
+fn put_began(
+    rt: &(impl Print + Eprint + Clock),
+    out: &mut [u8; 65536],
+    offset: usize,
+    number: u32,
+) -> usize {
     if number == 0 {
-        return put_word(out, offset, b"begun\n");
+        return put_word(rt, out, offset, b"begun\n");
     }
-    put_line(out, offset, b"refused ", number)
+    put_line(rt, out, offset, b"refused ", number)
 }
 
 // A call.
 fn put_call(
+    rt: &(impl Print + Eprint + Clock),
     plan: Plan,
     state: State,
     record: &[u8; 65536],
@@ -60,12 +77,13 @@ fn put_call(
     let after = turned.state;
     Answered {
         state: after,
-        offset: put_reply(out, offset, reply),
+        offset: put_reply(rt, out, offset, reply),
     }
 }
 
 // A token reading.
 fn put_reading(
+    rt: &(impl Print + Eprint + Clock),
     plan: Plan,
     state: State,
     record: &[u8; 65536],
@@ -79,22 +97,28 @@ fn put_reading(
     let after = state;
     Answered {
         state: after,
-        offset: put_level(out, offset, level),
+        offset: put_level(rt, out, offset, level),
     }
 }
 
 // A beginning.
-fn put_beginning(plan: Plan, out: &mut [u8; 65536], offset: usize) -> Answered {
+fn put_beginning(
+    rt: &(impl Print + Eprint + Clock),
+    plan: Plan,
+    out: &mut [u8; 65536],
+    offset: usize,
+) -> Answered {
     let began = calls::begin(plan);
     let after = began.state;
     Answered {
         state: after,
-        offset: put_began(out, offset, began.number),
+        offset: put_began(rt, out, offset, began.number),
     }
 }
 
 // One request.
 fn put_request(
+    rt: &(impl Print + Eprint + Clock),
     plan: Plan,
     state: State,
     record: &[u8; 65536],
@@ -106,16 +130,17 @@ fn put_request(
 {
     let kind = byte_at(record, at);
     if kind == 0 {
-        return put_call(plan, state, record, at, out, offset);
+        return put_call(rt, plan, state, record, at, out, offset);
     }
     if kind == 1 {
-        return put_reading(plan, state, record, at, out, offset);
+        return put_reading(rt, plan, state, record, at, out, offset);
     }
-    put_beginning(plan, out, offset)
+    put_beginning(rt, plan, out, offset)
 }
 
 // All requests of a record.
 pub fn put_requests(
+    rt: &(impl Print + Eprint + Clock),
     plan: Plan,
     begun: State,
     record: &[u8; 65536],
@@ -129,7 +154,7 @@ pub fn put_requests(
     let mut next = offset;
     let mut at = requests_place(record);
     while at < length {
-        let answered = put_request(plan, state, record, at, out, next);
+        let answered = put_request(rt, plan, state, record, at, out, next);
         next = answered.offset;
         state = answered.state;
         at += 13;

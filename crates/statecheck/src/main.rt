@@ -5,6 +5,8 @@
 // write that fails ends the stream and is told in one line on standard error; the records read before a failed read are answered.
 ghost use Rattle.std.specs.Prelude.{◌≤◌};
 
+use std::io::Read;
+use std::time::Clock;
 use streams::Got;
 
 mod answers;
@@ -27,8 +29,8 @@ struct Done {
 }
 
 // Reads bytes of the stream, the buffer's length of them: fewer where the stream is cut. A read that fails is told and cuts it, too.
-fn read(buffer: &mut [u8]) -> usize {
-    let got = streams::read_all(buffer, b"statecheck: cannot read standard input");
+fn read<I: Read>(rt: &(impl Clock + Eprint), input: &mut I, buffer: &mut [u8]) -> usize {
+    let got = streams::read_all(rt, input, buffer, b"statecheck: cannot read standard input");
     match got {
         Got::Bytes { count } => count,
         Got::Failed => 0,
@@ -36,9 +38,9 @@ fn read(buffer: &mut [u8]) -> usize {
 }
 
 // The length of the next record.
-fn next_record() -> Next {
+fn next_record<I: Read>(rt: &(impl Clock + Eprint), input: &mut I) -> Next {
     let mut bytes = [0u8; 4];
-    let got = read(&mut bytes);
+    let got = read(rt, input, &mut bytes);
     if got < 4 {
         return Next::End;
     }
@@ -49,6 +51,7 @@ fn next_record() -> Next {
 
 // The text of one record.
 fn put_case(
+    rt: &(impl Print + Eprint + Clock),
     number: u32,
     record: &[u8; 65536],
     length: usize,
@@ -57,12 +60,13 @@ fn put_case(
 ) -> usize
     requires { length ≤ 65536 }
 {
-    let behind_number = text::put_line(out, offset, b"case ", number);
+    let behind_number = text::put_line(rt, out, offset, b"case ", number);
     let plan = record::plan_in(record);
     let state = record::state_in(record);
-    let answered = answers::put_requests(plan, state, record, length, out, behind_number);
+    let answered = answers::put_requests(rt, plan, state, record, length, out, behind_number);
     let after = answered.state;
     states::put_state(
+        rt,
         &after.positions,
         &after.opened,
         &after.marks,
@@ -74,7 +78,14 @@ fn put_case(
 }
 
 // Reads a record and puts its text. A record that is too long or cut, and a write that fails, end the stream.
-fn answer_case(number: u32, length: usize, out: &mut [u8; 65536], offset: usize) -> Done {
+fn answer_case<I: Read>(
+    rt: &(impl Print + Eprint + Clock),
+    input: &mut I,
+    number: u32,
+    length: usize,
+    out: &mut [u8; 65536],
+    offset: usize,
+) -> Done {
     if 65536 < length {
         return Done {
             more: false,
@@ -82,14 +93,14 @@ fn answer_case(number: u32, length: usize, out: &mut [u8; 65536], offset: usize)
         };
     }
     let mut record = io::large_buffer();
-    let got = read(&mut record[..length]);
+    let got = read(rt, input, &mut record[..length]);
     if got < length {
         return Done {
             more: false,
             offset,
         };
     }
-    let next = put_case(number, &record, length, out, offset);
+    let next = put_case(rt, number, &record, length, out, offset);
     Done {
         more: !text::is_lost(next),
         offset: next,
@@ -97,26 +108,28 @@ fn answer_case(number: u32, length: usize, out: &mut [u8; 65536], offset: usize)
 }
 
 // Answers every record; the offset behind what is not yet written.
-fn answer_all(out: &mut [u8; 65536]) -> usize {
+fn answer_all<I: Read>(
+    rt: &(impl Print + Eprint + Clock),
+    input: &mut I,
+    out: &mut [u8; 65536],
+) -> usize {
     let mut offset: usize = 0;
-    let mut number: u32 = 0;
-    while number < 4294967295 {
-        let Next::Record { length } = next_record() else {
+    for number in 0..u32::MAX {
+        let Next::Record { length } = next_record(rt, input) else {
             return offset;
         };
-        let done = answer_case(number, length, out, offset);
+        let done = answer_case(rt, input, number, length, out, offset);
         offset = done.offset;
         if !done.more {
             return offset;
         }
-        number += 1;
     }
     offset
 }
 
 // Answers the stream on standard input and writes what is left in the buffer.
-fn main() {
+fn main(rt: HostRuntime) {
     let mut out = io::large_buffer();
-    let offset = answer_all(&mut out);
-    text::write_rest(&out, offset);
+    let offset = answer_all(&rt, &mut rt.stdin(), &mut out);
+    text::write_rest(&rt, &out, offset);
 }

@@ -124,7 +124,9 @@ fn marks_count(record: &[u8; 65536]) -> usize
 fn mark_place(process: u8, edge: u16) -> usize
     ensures { result < 32768 }
 {
-    numerals::word_to_index(512 * (numerals::byte_to_word(process) % 64) + numerals::to_word(edge) % 512)
+    numerals::word_to_index(
+        512 * (numerals::byte_to_word(process) % 64) + numerals::to_word(edge) % 512,
+    )
 }
 
 // The marks.

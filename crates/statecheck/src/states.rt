@@ -3,57 +3,96 @@
 ghost use Rattle.std.specs.Prelude.{◌<◌};
 
 use crate::text::{put_line, put_number, put_word};
+use std::time::Clock;
 
 // A counter that is not 0.
-fn put_counter(out: &mut [u8; 65536], offset: usize, c: u32, value: u32) -> usize {
+fn put_counter(
+    rt: &(impl Print + Eprint + Clock),
+    out: &mut [u8; 65536],
+    offset: usize,
+    c: u32,
+    value: u32,
+) -> usize {
     if value == 0 {
         return offset;
     }
-    let behind_word = put_word(out, offset, b"counter ");
-    let behind_counter = put_number(out, behind_word, c, b' ');
-    put_number(out, behind_counter, value, b'\n')
+    let behind_word = put_word(rt, out, offset, b"counter ");
+    let behind_counter = put_number(rt, out, behind_word, c, b' ');
+    put_number(rt, out, behind_counter, value, b'\n')
 }
 
 // The counters that are not 0.
-fn put_counters(counters: &[u32; 64], out: &mut [u8; 65536], offset: usize) -> usize {
+fn put_counters(
+    rt: &(impl Print + Eprint + Clock),
+    counters: &[u32; 64],
+    out: &mut [u8; 65536],
+    offset: usize,
+) -> usize {
     let mut next = offset;
     let mut c: usize = 0;
     while c < 64 {
-        next = put_counter(out, next, c as u32, counters[c]);
+        next = put_counter(rt, out, next, c as u32, counters[c]);
         c += 1;
     }
     next
 }
 
 // A process's position and open flag.
-fn put_process(out: &mut [u8; 65536], offset: usize, p: u32, position: u16, open: u8) -> usize {
-    let behind_word = put_word(out, offset, b"process ");
-    let behind_process = put_number(out, behind_word, p, b' ');
-    let behind_position = put_number(out, behind_process, position as u32, b' ');
-    put_number(out, behind_position, open as u32, b'\n')
+fn put_process(
+    rt: &(impl Print + Eprint + Clock),
+    out: &mut [u8; 65536],
+    offset: usize,
+    p: u32,
+    position: u16,
+    open: u8,
+) -> usize {
+    let behind_word = put_word(rt, out, offset, b"process ");
+    let behind_process = put_number(rt, out, behind_word, p, b' ');
+    let behind_position = put_number(rt, out, behind_process, position as u32, b' ');
+    put_number(rt, out, behind_position, open as u32, b'\n')
 }
 
 // A process's position and open flag where one of both is not 0.
-fn put_process_if(out: &mut [u8; 65536], offset: usize, p: u32, position: u16, open: u8) -> usize {
+fn put_process_if(
+    rt: &(impl Print + Eprint + Clock),
+    out: &mut [u8; 65536],
+    offset: usize,
+    p: u32,
+    position: u16,
+    open: u8,
+) -> usize {
     if 0 < position {
-        return put_process(out, offset, p, position, open);
+        return put_process(rt, out, offset, p, position, open);
     }
     if 0 < open {
-        return put_process(out, offset, p, position, open);
+        return put_process(rt, out, offset, p, position, open);
     }
     offset
 }
 
 // A mark.
-fn put_mark(out: &mut [u8; 65536], offset: usize, p: u32, e: u32, value: u8) -> usize {
-    let behind_word = put_word(out, offset, b"mark ");
-    let behind_process = put_number(out, behind_word, p, b' ');
-    let behind_edge = put_number(out, behind_process, e, b' ');
-    put_number(out, behind_edge, value as u32, b'\n')
+fn put_mark(
+    rt: &(impl Print + Eprint + Clock),
+    out: &mut [u8; 65536],
+    offset: usize,
+    p: u32,
+    e: u32,
+    value: u8,
+) -> usize {
+    let behind_word = put_word(rt, out, offset, b"mark ");
+    let behind_process = put_number(rt, out, behind_word, p, b' ');
+    let behind_edge = put_number(rt, out, behind_process, e, b' ');
+    put_number(rt, out, behind_edge, value as u32, b'\n')
 }
 
 // The marks of a process that are not 0.
-fn put_marks(marks: &[u8; 32768], p: usize, out: &mut [u8; 65536], offset: usize) -> usize
+fn put_marks(
+    rt: &(impl Print + Eprint + Clock),
+    marks: &[u8; 32768],
+    p: usize,
+    out: &mut [u8; 65536],
+    offset: usize,
+) -> usize
     requires { p < 64 }
 {
     let row = 512 * p;
@@ -62,7 +101,7 @@ fn put_marks(marks: &[u8; 32768], p: usize, out: &mut [u8; 65536], offset: usize
     while e < 512 {
         let value = marks[row + e];
         if 0 < value {
-            next = put_mark(out, next, p as u32, e as u32, value);
+            next = put_mark(rt, out, next, p as u32, e as u32, value);
         }
         e += 1;
     }
@@ -71,6 +110,7 @@ fn put_marks(marks: &[u8; 32768], p: usize, out: &mut [u8; 65536], offset: usize
 
 // The processes.
 fn put_processes<'a>(
+    rt: &(impl Print + Eprint + Clock),
     positions: &'a [u16; 64],
     opened: &'a [u8; 64],
     marks: &'a [u8; 32768],
@@ -80,8 +120,8 @@ fn put_processes<'a>(
     let mut next = offset;
     let mut p: usize = 0;
     while p < 64 {
-        let behind_process = put_process_if(out, next, p as u32, positions[p], opened[p]);
-        next = put_marks(marks, p, out, behind_process);
+        let behind_process = put_process_if(rt, out, next, p as u32, positions[p], opened[p]);
+        next = put_marks(rt, marks, p, out, behind_process);
         p += 1;
     }
     next
@@ -89,6 +129,7 @@ fn put_processes<'a>(
 
 // A state.
 pub fn put_state<'a>(
+    rt: &(impl Print + Eprint + Clock),
     positions: &'a [u16; 64],
     opened: &'a [u8; 64],
     marks: &'a [u8; 32768],
@@ -97,7 +138,7 @@ pub fn put_state<'a>(
     out: &mut [u8; 65536],
     offset: usize,
 ) -> usize {
-    let behind_turn = put_line(out, offset, b"turn ", turn);
-    let behind_counters = put_counters(counters, out, behind_turn);
-    put_processes(positions, opened, marks, out, behind_counters)
+    let behind_turn = put_line(rt, out, offset, b"turn ", turn);
+    let behind_counters = put_counters(rt, counters, out, behind_turn);
+    put_processes(rt, positions, opened, marks, out, behind_counters)
 }

@@ -1,18 +1,31 @@
 // Bytes, words and numbers collected in a buffer. A full buffer is written to standard output and begun again. Once a write has failed, which
 // is told, nothing more is put or written: the offset then stays past the buffer's end.
 
+use std::io::writer;
+use std::time::Clock;
+
 // Whether a write has failed.
 pub fn is_lost(offset: usize) -> bool {
     65536 < offset
 }
 
 // Writes bytes: false where a write fails.
-fn write(bytes: &[u8]) -> bool {
-    streams::write_all(bytes, b"statecheck: cannot write standard output")
+fn write(rt: &(impl Print + Eprint + Clock), bytes: &[u8]) -> bool {
+    streams::write_all(
+        rt,
+        &mut writer(rt),
+        bytes,
+        b"statecheck: cannot write standard output",
+    )
 }
 
 // One byte.
-pub fn put(out: &mut [u8; 65536], offset: usize, byte: u8) -> usize {
+pub fn put(
+    rt: &(impl Print + Eprint + Clock),
+    out: &mut [u8; 65536],
+    offset: usize,
+    byte: u8,
+) -> usize {
     if offset < 65536 {
         out[offset] = byte;
         return offset + 1;
@@ -20,7 +33,7 @@ pub fn put(out: &mut [u8; 65536], offset: usize, byte: u8) -> usize {
     if is_lost(offset) {
         return offset;
     }
-    if !write(out) {
+    if !write(rt, out) {
         return 65537;
     }
     out[0] = byte;
@@ -28,43 +41,65 @@ pub fn put(out: &mut [u8; 65536], offset: usize, byte: u8) -> usize {
 }
 
 // A word.
-pub fn put_word(out: &mut [u8; 65536], offset: usize, word: &[u8]) -> usize {
+pub fn put_word(
+    rt: &(impl Print + Eprint + Clock),
+    out: &mut [u8; 65536],
+    offset: usize,
+    word: &[u8],
+) -> usize {
     let mut next = offset;
     let mut i: usize = 0;
     while i < word.len() {
-        next = put(out, next, word[i]);
+        next = put(rt, out, next, word[i]);
         i += 1;
     }
     next
 }
 
 // A number in decimal digits.
-pub fn put_decimal(out: &mut [u8; 65536], offset: usize, n: u32) -> usize {
+pub fn put_decimal(
+    rt: &(impl Print + Eprint + Clock),
+    out: &mut [u8; 65536],
+    offset: usize,
+    n: u32,
+) -> usize {
     let mut digits = [0u8; 10];
     let count = numerals::text::put_decimal(&mut digits, 0, n);
-    put_word(out, offset, &digits[..count])
+    put_word(rt, out, offset, &digits[..count])
 }
 
 // A number and the byte behind it.
-pub fn put_number(out: &mut [u8; 65536], offset: usize, n: u32, byte: u8) -> usize {
-    let next = put_decimal(out, offset, n);
-    put(out, next, byte)
+pub fn put_number(
+    rt: &(impl Print + Eprint + Clock),
+    out: &mut [u8; 65536],
+    offset: usize,
+    n: u32,
+    byte: u8,
+) -> usize {
+    let next = put_decimal(rt, out, offset, n);
+    put(rt, out, next, byte)
 }
 
 // A word, a number and the line's end.
-pub fn put_line(out: &mut [u8; 65536], offset: usize, word: &[u8], n: u32) -> usize {
-    let next = put_word(out, offset, word);
-    put_number(out, next, n, b'\n')
+pub fn put_line(
+    rt: &(impl Print + Eprint + Clock),
+    out: &mut [u8; 65536],
+    offset: usize,
+    word: &[u8],
+    n: u32,
+) -> usize {
+    let next = put_word(rt, out, offset, word);
+    put_number(rt, out, next, n, b'\n')
 }
 
 // Writes the bytes before a offset.
-fn write_part(out: &[u8], offset: usize) {
+fn write_part(rt: &(impl Print + Eprint + Clock), out: &[u8], offset: usize) {
     if offset <= out.len() {
-        write(&out[..offset]);
+        write(rt, &out[..offset]);
     }
 }
 
 // Writes what was put since the buffer was last full.
-pub fn write_rest(out: &[u8; 65536], offset: usize) {
-    write_part(out, offset);
+pub fn write_rest(rt: &(impl Print + Eprint + Clock), out: &[u8; 65536], offset: usize) {
+    write_part(rt, out, offset);
 }

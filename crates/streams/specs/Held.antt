@@ -1,8 +1,10 @@
--- What the contracts of `streams` cite: the bytes that were moved are counted within the bytes that were lent. Assumes nothing.
-use Rattle.std.specs.Prelude.{◌≡◌, refl, true, false, List, ℕ, ◌≤◌, min, T, ℤ, pos, negsuc, length}
+-- What the contracts of `streams` cite: the bytes that were moved are counted within the bytes that were lent, and are those that the input had
+-- next or the output holds last. Assumes nothing.
+use Rattle.std.specs.Prelude.{◌≡◌, refl, true, false, List, ℕ, ◌<◌, ◌≤◌, min, T, ℤ, pos, negsuc, length, take, Option, Result, Ok, Err}
+use Rattle.std.specs.Io.KnownBytes.{Appends, Consumes, IsAtEnd}
 use Rattle.std.proofs.Common.{subst, sym, ap, arith, ltb→lt, length-take-le}
 use Rattle.std.specs.Int.Signed.{lt_z}
-use Rattle.io.specs.Counts.{IsPrefixLen, clamp_len}
+use Rattle.std.specs.Counts.{IsPrefixLen, clamp_len}
 use Rattle.streams.specs.declared.Got.{Got}
 use Rattle.streams.specs.declared.Got.TheVariants.{Bytes, Failed}
 
@@ -15,6 +17,26 @@ Held Failed bytes = Unit {0}
 abbrev pub answered : ℤ → ℕ → Got
 answered (pos k) most = Bytes (min k most)
 answered (negsuc k) most = Failed
+
+-- a call's answer as such a number: how many bytes it moved, or -1 where it failed
+abbrev pub number : {E : Type 0} → Result ℕ E → ℤ
+number (Ok count) = pos count
+number (Err error) = negsuc 0
+
+-- the buffer's first bytes are those that the input had next, and all that it had where they are fewer than the buffer has; where a read failed,
+-- those that are gone from the input are in the buffer, too
+abbrev pub Takes : Option (List ℕ) → Option (List ℕ) → Got → List ℕ → Type 0
+Takes old new (Bytes count) buffer = Consumes old new (take count buffer) × (count < length buffer → IsAtEnd new)
+Takes old new Failed buffer = (count : ℕ) × (count ≤ length buffer) × Consumes old new (take count buffer)
+
+-- the same of a count or an error
+abbrev pub Reads : {E : Type 0} → Option (List ℕ) → Option (List ℕ) → Result ℕ E → List ℕ → Type 0
+Reads old new (Ok count) buffer = Takes old new (Bytes count) buffer
+Reads old new (Err error) buffer = Takes old new Failed buffer
+
+-- of the text its first bytes were written, and no other byte
+abbrev pub AppendsPart : Option (List ℕ) → Option (List ℕ) → List ℕ → Type 0
+AppendsPart old new text = (count : ℕ) × Appends old new (take count text)
 
 -- where bytes were moved they are counted
 pub held : (got : Got) (bytes : List ℕ) → Held got bytes → (count : ℕ) → got ≡ Bytes count → IsPrefixLen count bytes
