@@ -1,0 +1,27 @@
+use Rattle.std.proofs.Common.{rules, ◌≡◌, ◌+◌, ◌<◌, ◌≤◌, length, ℕ, ◌-◌, ◌*◌, ◌/◌, ◌%◌, Bool, true, false, nat_eq, nat_lt, List, [], ◌∷◌, ◌++◌, slice_index_or, slice_set, bit_and, bit_or, Fits, w8, w32, w64, Bor, MutBor, arith}
+use Rattle.plan.specs.Value.{plan_with}
+use Rattle.plan.specs.Faults.{InShape}
+use Rattle.numerals.specs.LittleEndian.{four_bytes}
+use Rattle.machine.specs.States.{fresh, state_with}
+use Rattle.transcript.specs.Text.{calls_text, image_length, run_text, text_of}
+use Rattle.numerals.specs.Writing.{Put}
+use Rattle.transcript.specs.Running.{cut_if, Running, running_begin, running_more, running_over}
+use Rattle.transcript.specs.Printing.{Answers}
+use Rattle.std.proofs.lemmas.Grind.{common_steps}
+use mathlib.Core.Path.{◌∙◌}
+use Rattle.transcript.proofs.put_calls.Goals as goal
+
+pub loop-i-init : goal.loop-i-init
+unfolding fresh
+loop-i-init c = (running_begin _ c.requires.0 _ _ _, search rules)
+
+pub loop-i-preserved : goal.loop-i-preserved
+loop-i-preserved c =
+    (
+      running_more _ c.requires.0 _ _ _ _ c.loop-i.invariant.0 (search rules) _ _ _ c.byte_to_word-code.ensures.0
+          c.byte_to_word-process.ensures.0 (c.to_word-edge.ensures.0 ∙ c.pair_at.ensures) c.step_in_shape-reply.ensures c.put_line-next.ensures.0 c.put_line-next.ensures.1,
+      search rules,
+    )
+
+pub returns : goal.returns
+returns c = (search (rules, running_over), omega arith)
