@@ -12,7 +12,7 @@ use Rattle.loops.specs.Sum.{sum, sum_step}
 use Rattle.counting.specs.Modular.{Divides, rounded_up, less_earlier}
 use Rattle.counting.specs.Process.{counter_value, earlier, Rounds_to, Counted_node, Next, Raises, b_of}
 use Rattle.counting.specs.Remainders.{minus_is, rounded_is}
-use Rattle.counting.specs.Facts.{fact_3}
+use Rattle.counting.proofs.Facts.{fact_3}
 
 -- what rounds up to Q * k without a bound is congruent to it where the counter and the difference are taken modulo N
 pub rounded_modulo : (q n value taken k : ℕ) → 0 < q → 0 < n → Divides q n → Rounds_to q value taken k

@@ -4,8 +4,9 @@ use Rattle.std.specs.Prelude.{◌≡◌, true, ◌↔◌, ℕ, ◌+◌, ◌≤�
 use Rattle.std.proofs.Common.{inl, inr, arith}
 use Rattle.counting.specs.Modular.{Divides, Exceeds, finds, reading_mended}
 use Rattle.counting.specs.Process.{Counted_node, Next, Raises, b_of, Counted_edge}
-use Rattle.counting.specs.Rounding.{rounded_counter}
-use Rattle.counting.specs.Exact.{never_early, test_exact, reading_exact}
+use Rattle.counting.proofs.Rounding.{rounded_counter}
+use Rattle.counting.specs.Exact.{never_early}
+use Rattle.counting.proofs.Exact.{test_exact, reading_exact}
 
 module _ {q n : ℕ} (end source : Counted_node q n) (h : 0 < q) (d : Divides q n) (next : Next end) (raises : Raises source)
     (tokens now : ℕ) (balance : now + end.firings ≡ tokens + source.firings) where
