@@ -3,9 +3,8 @@
 use Rattle.std.specs.Prelude.{◌≡◌, refl, false, ℕ, zero, suc}
 use Rattle.std.proofs.Common.{arith}
 use Rattle.loops.specs.Sum.{sum}
-use Rattle.counting.specs.Modular.{rounded_up, minus_modulo, finds, reading_sum, reading_printed, reading_mended}
+use Rattle.counting.specs.Modular.{rounded_up, minus_modulo, finds, reading_sum, reading_printed}
 use Rattle.counting.specs.Process.{Counted_node, b_of}
-use Rattle.counting.specs.Look.{reading_of_tokens}
 
 -- the increments of either process: 0, then 2
 unfoldable pub increments : ℕ → ℕ
@@ -53,16 +52,6 @@ node_3 = record {
 pub printed_is_four : reading_printed 2 8 3 (b_of node_3) (b_of node_0) ≡ 4
 unfolding reading_printed reading_sum minus_modulo rounded_up sum increments node_0 node_3
 printed_is_four = refl
-
--- the mended one
-pub mended_is_none : reading_mended 2 8 3 (b_of node_3) (b_of node_0) ≡ 0
-unfolding reading_mended reading_sum minus_modulo rounded_up sum increments node_0 node_3
-mended_is_none = refl
-
--- the law says the same: its premises are met, with no token now and none on the route back 0-1, 1-2, 2-3
-pub mended_by_law : reading_mended 2 8 3 (b_of node_3) (b_of node_0) ≡ 0
-unfolding increments node_0 node_3
-mended_by_law = reading_of_tokens node_0 node_3 (omega arith) (4, refl) refl (omega arith) 3 0 refl 0 (omega arith) (omega arith)
 
 -- the bound is needed: with N 6, which is 2 * 3 and not above it, a fresh plan's look at this edge waits where 3 tokens stand
 pub bound_needed : finds 2 6 3 0 0 ≡ false

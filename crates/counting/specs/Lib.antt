@@ -2,7 +2,5 @@ pub mod Modular
 pub mod Process
 pub mod Remainders
 pub mod Facts
-pub mod Rounding
 pub mod Exact
-pub mod Look
 pub mod Example

@@ -4,7 +4,7 @@
 use Rattle.std.specs.Prelude.{◌≡◌, List, ◌⊎◌, ◌↔◌, ℕ, ◌+◌, ◌*◌, ◌%◌, ◌≤◌, ◌<◌}
 use Rattle.loops.specs.Values.{at, sum}
 use Rattle.net.specs.Graph.{Legal, Fireable, Emptiest, Linked, firings}
-use Rattle.net.specs.Emptiest as net
+use Rattle.net.proofs.Emptiest as net
 use Rattle.plan.specs.declared.Plan.{Plan}
 use Rattle.plan.specs.Value.{graph_of, InProcess, share}
 use Rattle.judge.specs.declared.Answer.TheVariants.{Refused}

@@ -11,11 +11,11 @@ use Rattle.net.specs.Processes.{Seats, Standing, Next, Moved, Synchronising}
 use Rattle.net.specs.Counts.{same_or_not, firings_snoc}
 use Rattle.net.specs.Append.{legal_snoc}
 use Rattle.net.specs.Tokens.{tokens_now, lead}
-use Rattle.net.specs.ProcessEdges.{chord_holds}
+use Rattle.net.proofs.ProcessEdges.{chord_holds}
 use Rattle.net.specs.Rounds.{standing_moved}
 use Rattle.counting.specs.Modular.{less_earlier, finds}
 use Rattle.counting.specs.Process.{Counted_node, counter_value}
-use Rattle.counting.specs.Look as look
+use Rattle.counting.proofs.Look as look
 use Rattle.follow.specs.Counters.{Counters, added, added_snoc, shares, round_full, added_by_rounds}
 
 module _ (G : Graph) (S : Seats G) (K : Counters G S) where

@@ -5,7 +5,7 @@ use Rattle.std.proofs.Common.{sym, ap₂, ◌∙◌, arith}
 use Rattle.std.proofs.Math.Path.{ap, subst}
 use Rattle.loops.specs.Choice.{at}
 use Rattle.net.specs.Graph.{Fireable}
-use Rattle.net.specs.Live.{some_fireable}
+use Rattle.net.proofs.Live.{some_fireable}
 use Rattle.net.specs.Seating.{seats_of}
 use Rattle.net.specs.ProcessEdges.{next_only}
 use Rattle.plan.specs.declared.Plan.{Plan}

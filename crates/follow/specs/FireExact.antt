@@ -6,7 +6,7 @@ use Rattle.std.proofs.Common.{◌∙◌, subst, arith}
 use Rattle.loops.specs.Choice.{at}
 use Rattle.net.specs.Graph.{Fireable}
 use Rattle.net.specs.Tables.{graph_of_tables}
-use Rattle.net.specs.ProcessEdges.{chord_holds}
+use Rattle.net.proofs.ProcessEdges.{chord_holds}
 use Rattle.plan.specs.declared.Plan.{Plan}
 use Rattle.plan.specs.Value.{graph_of, InProcess}
 use Rattle.judge.specs.Sound.{Sound}

@@ -6,7 +6,7 @@ use Rattle.std.proofs.Math.Path.{ap, subst}
 use mathlib.Core.List.{List, [], ◌∷◌, ◌++◌}
 use Rattle.net.specs.Graph.{Fireable, fire, after, Legal, Emptiest, Linked, firings}
 use Rattle.net.specs.Append.{after_append}
-use Rattle.net.specs.Lead as lead
+use Rattle.net.proofs.Lead as lead
 use Rattle.plan.specs.declared.Plan.{Plan}
 use Rattle.plan.specs.Value.{graph_of}
 use Rattle.judge.specs.Sound.{Sound}

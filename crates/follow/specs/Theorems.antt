@@ -7,7 +7,7 @@ use Rattle.loops.specs.Choice.{at}
 use Rattle.loops.specs.Sum.{sum}
 use Rattle.net.specs.Graph.{firings, tokens_on, Route, Fireable, Legal, Emptiest, Linked}
 use Rattle.net.specs.Tables.{graph_of_tables}
-use Rattle.net.specs.Emptiest.{emptiest_or_none}
+use Rattle.net.proofs.Emptiest.{emptiest_or_none}
 use Rattle.net.specs.Tokens as token_laws
 use Rattle.plan.specs.declared.Plan.{Plan}
 use Rattle.plan.specs.Value.{graph_of, InProcess, share}

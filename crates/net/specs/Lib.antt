@@ -11,10 +11,9 @@ pub mod Tokens
 -- routes that go round a cycle, and shorter ones without
 pub mod Looped
 pub mod Shorten
--- the emptiest route; how one is found
-pub mod Emptiest
+-- how the emptiest route is found
 pub mod Fewest
--- any node can be fired; how
+-- what has to fire for a node to fire
 pub mod Live
 pub mod Towards
 -- how far a node may get ahead of another
@@ -25,5 +24,5 @@ pub mod Seating
 pub mod ProcessEdges
 -- rounds and positions of processes
 pub mod Rounds
--- every cycle holds a token where every simple one does
+-- every cycle goes round a simple one
 pub mod Simple

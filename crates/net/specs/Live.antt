@@ -1,13 +1,11 @@
--- Where every cycle holds a token, no legal order comes to an end: any chosen node can be fired, and what has to fire for it.
+-- What has to fire for a chosen node to fire; a legal order leaves a token on every cycle.
 -- Assumes nothing.
-use Rattle.std.specs.Prelude.{◌≡◌, refl, ◌≢◌, ℕ, ◌≤◌, ◌<◌}
-use Rattle.std.proofs.Common.{ap, subst, inl, inr, arith}
+use Rattle.std.specs.Prelude.{◌≡◌, ◌≢◌, ℕ, ◌≤◌, ◌<◌}
+use Rattle.std.proofs.Common.{inl, inr, arith}
 use mathlib.Core.List.{List, [], ◌∷◌, ◌++◌}
-use Rattle.net.specs.Graph.{Graph, Marking, Shaped, firings, Fireable, after, Legal, TokenFree, EveryCycleHolds}
-use Rattle.net.specs.Counts.{same_or_not, one_if_same_self, firings_append, firings_snoc, firings_first}
-use Rattle.net.specs.Append.{legal_prefix}
+use Rattle.net.specs.Graph.{Graph, Marking, Shaped, firings, after, Legal, TokenFree, EveryCycleHolds}
+use Rattle.net.specs.Counts.{same_or_not, one_if_same_self, firings_snoc}
 use Rattle.net.specs.Tokens.{cycle_keeps, lead}
-use Rattle.net.specs.Towards.{Towards, towards}
 
 -- t fires x: exactly the nodes with a token-free route to x fire, each once, and x last (the empty route leads from x to x)
 pub record FiredBy (G : Graph) (μ : Marking) (x : ℕ) (t : List ℕ) : Type 0 where
@@ -28,51 +26,8 @@ module _ (G : Graph) (μ : Marking) where
             omega (arith, lead G μ (s ++ (x ∷ [])) l free.0 y x free.1, free.2, firings_snoc x x s, firings_snoc y x s, one_if_same_self x)
       ]
 
-  module _ (shaped : Shaped G) (holds : EveryCycleHolds G μ) where
-    -- any node can be fired
-    can_fire_now : (x : ℕ) → x < G.nodes → (t : List ℕ) × FiredBy G μ x t
-    can_fire_now x h = let a = towards G μ x shaped holds h in cut a.0 a.1 (firings_first x a.0 a.2)
-      where
-        cut : (s : List ℕ) → Towards G μ x s → (t u : List ℕ) × (s ≡ (t ++ (x ∷ [])) ++ u) → (t : List ℕ) × FiredBy G μ x t
-        cut s a c = (t, record { legal = l; once = once; near = λ y i. a.near y (omega (arith, part y)); all = all; done = done; last = (c.0, refl) })
-          where
-            t : List ℕ
-            t = c.0 ++ (x ∷ [])
-
-            l : Legal G μ t
-            l = (legal_prefix G μ t c.1 (subst (Legal G μ) c.2 a.legal)).0
-
-            part : (y : ℕ) → firings y t ≤ firings y s
-            part y = omega (arith, firings_append y t c.1, ap (firings y) c.2)
-
-            once : (y : ℕ) → firings y t ≤ 1
-            once y = omega (arith, part y, a.once y)
-
-            done : firings x t ≡ 1
-            done = omega (arith, once x, firings_snoc x x c.0, one_if_same_self x)
-
-            all : (y : ℕ) → TokenFree G μ y x → firings y t ≡ 1
-            all y free = omega (arith, lead G μ t l free.0 y x free.1, free.2, done, once y)
-
-    -- so some node may fire
-    some_now : 0 < G.nodes → (n : ℕ) × (n < G.nodes) × Fireable G μ n
-    unfolding Legal firings
-    some_now h = let t = can_fire_now 0 h in first t.0 t.1.legal t.1.done
-      where
-        first : (t : List ℕ) → Legal G μ t → firings 0 t ≡ 1 → (n : ℕ) × (n < G.nodes) × Fireable G μ n
-        first [] l d = absurd (omega arith)
-        first (n ∷ t) l d = (n, l.0, l.1)
-
 module _ (G : Graph) (μ : Marking) (shaped : Shaped G) (holds : EveryCycleHolds G μ) (s : List ℕ) (l : Legal G μ s) where
   -- a legal order leaves a token on every cycle
   pub holds_after : EveryCycleHolds G (after G μ s)
   unfolding EveryCycleHolds
   holds_after v es c = omega (arith, holds v es c, cycle_keeps G μ s l es v c.0)
-
-  -- after any legal order any chosen node can be fired
-  pub can_fire : (x : ℕ) → x < G.nodes → (t : List ℕ) × FiredBy G (after G μ s) x t
-  can_fire = can_fire_now G (after G μ s) shaped holds_after
-
-  -- after any legal order some node may fire, if there is one at all
-  pub some_fireable : 0 < G.nodes → (n : ℕ) × (n < G.nodes) × Fireable G (after G μ s) n
-  some_fireable = some_now G (after G μ s) shaped holds_after

@@ -1,4 +1,4 @@
--- The edges of a process while it goes round: only its next node may fire, and only synchronising edges can hold it up.
+-- The edges of a process while it goes round: only its next node may fire.
 -- Assumes nothing.
 use Rattle.std.specs.Prelude.{◌≡◌, List, [], ◌∷◌, ◌++◌, ◌⊎◌}
 use Rattle.std.proofs.Math.Path.{refl, sym, ap, ap₂}
@@ -6,10 +6,8 @@ use Rattle.std.proofs.Common.{◌∙◌, subst}
 use Rattle.std.proofs.Math.Logic.{inl, inr}
 use Prim.Native.Nat.{ℕ, zero, suc, ◌+◌, ◌-◌, ◌≤◌, ◌<◌}
 use native.Mathlib.Omega.{arith}
-use Rattle.std.proofs.Math.Decide.{ℕ_discrete, dec_lt}
-use Rattle.std.proofs.Math.ListN.{length-append}
-use Rattle.net.specs.Graph.{Graph, Shaped, one_if_same, firings, tokens_on, Fireable, after, Legal, Route, TokenFree, EveryCycleHolds}
-use Rattle.net.specs.Processes.{Edge, Seats, Standing, Next, Inner, Synchronising}
+use Rattle.net.specs.Graph.{Graph, one_if_same, firings, tokens_on, Fireable, after, Legal, Route, TokenFree}
+use Rattle.net.specs.Processes.{Edge, Seats, Standing, Next}
 use Rattle.net.specs.Counts.{same_or_not}
 use Rattle.net.specs.Append.{tokens_on_append, route_append}
 use Rattle.net.specs.Tokens.{tokens_now}
@@ -103,21 +101,6 @@ module _ (G : Graph) (S : Seats G) where
       subst (TokenFree G G.tokens u) (ap₂ S.node p q ∙ S.node_of v hv)
       (ride_by (S.seat v - S.seat u) u hu (omega (arith, S.seat_lt v hv, ap S.length p)))
 
-  -- where every cycle holds a token, so does an edge at the start that leads back to an earlier seat of its process, or to its own
-  pub chord_tokens : Shaped G → EveryCycleHolds G G.tokens → (e : ℕ) → e < G.edges → Inner G S e
-      → S.seat (G.destination e) ≤ S.seat (G.source e) → 0 < G.tokens e
-  unfolding EveryCycleHolds Route tokens_on
-  chord_tokens shaped holds e h p l =
-      let m = G.source e in
-      let n = G.destination e in
-      let t = ride n m (shaped.destination_lt e h) (shaped.source_lt e h) (sym p) l in
-      omega (
-        arith,
-        holds n (t.0 ++ (e ∷ [])) (route_append G t.0 (e ∷ []) n m n t.1 (h, refl, refl), omega (arith, length-append t.0 (e ∷ []))),
-        tokens_on_append G.tokens t.0 (e ∷ []),
-        t.2,
-      )
-
   module _ (rounds position : ℕ → ℕ) (s : List ℕ) (l : Legal G G.tokens s) (standing : Standing G S rounds position s) where
     -- the process edge into v holds one token where v is next, and otherwise none
     pub process_edge_holds : (v e : ℕ) → v < G.nodes → ProcessEdge v e → after G G.tokens s e ≡ one_if_same (S.seat v) (position (S.home v))
@@ -142,30 +125,4 @@ module _ (G : Graph) (S : Seats G) where
         elim (same_or_not (S.seat v) (position (S.home v))) [
           | inl c ↦ c.0
           | inr c ↦ absurd (omega (arith, f t.0 t.1.edge_lt t.1.into, process_edge_holds v t.0 h t.1))
-        ]
-
-    -- an edge inside a process holds a token where its end is next
-    pub chord_holds : Shaped G → EveryCycleHolds G G.tokens → (e : ℕ) → e < G.edges → Inner G S e
-        → Next G S position (G.destination e) → 0 < after G G.tokens s e
-    chord_holds shaped holds e h p q =
-        let m = G.source e in
-        let n = G.destination e in
-        let now = tokens_now G G.tokens s l e h in
-        let fired_m = standing.fired m (shaped.source_lt e h) in
-        let fired_n = standing.fired n (shaped.destination_lt e h) in
-        let same_rounds = ap rounds p in
-        let same_position = ap position p in
-        elim (dec_lt (S.seat m) (S.seat n)) [
-          | yes b ↦ omega arith
-          | no b ↦ omega (arith, chord_tokens shaped holds e h p (omega arith))
-        ]
-
-    -- the next node of a process may fire where each synchronising edge into it holds a token
-    pub next_may : Shaped G → EveryCycleHolds G G.tokens → (v : ℕ) → Next G S position v
-        → ((e : ℕ) → e < G.edges → G.destination e ≡ v → Synchronising G S e → 0 < after G G.tokens s e) → Fireable G (after G G.tokens s) v
-    unfolding Fireable
-    next_may shaped holds v next f e h p =
-        elim (ℕ_discrete (S.home (G.source e)) (S.home (G.destination e))) [
-          | yes q ↦ chord_holds shaped holds e h q (subst (Next G S position) (sym p) next)
-          | no q ↦ f e h p q
         ]

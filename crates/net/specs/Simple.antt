@@ -1,12 +1,11 @@
--- 000's simple cycles: every cycle holds a token exactly where every simple one does.
+-- 000's simple cycles: every cycle goes round one.
 -- Assumes nothing.
 use Rattle.std.proofs.Common.{ap, arith}
 use mathlib.Core.List.{List, [], ◌∷◌}
-use Rattle.std.specs.Prelude.{◌↔◌}
 use Rattle.std.proofs.Math.Logic.{inl, inr}
 use Prim.Native.Nat.{ℕ, zero, suc, ◌≤◌, ◌<◌}
 use Rattle.std.proofs.Math.ListN.{length, length-append}
-use Rattle.net.specs.Graph.{Graph, Marking, firings, tokens_on, Route, Cycle, EveryCycleHolds}
+use Rattle.net.specs.Graph.{Graph, Marking, firings, tokens_on, Route, Cycle}
 use Rattle.net.specs.Counts.{twice_or_once}
 use Rattle.net.specs.Append.{tokens_on_append}
 use Rattle.net.specs.Looped.{stops, Looped, looped}
@@ -35,11 +34,3 @@ module _ (G : Graph) where
                 let r = go k a.at a.cycle a.round (omega arith) in
                 (r.0, r.1, r.2, omega (arith, r.3, simp tokens_on_append at (ap (tokens_on μ) a.whole)))
           ]
-
-  -- so 01's C0 says the same of all cycles as of the simple ones
-  pub simple_cycles_enough : (μ : Marking) → EveryCycleHolds G μ ↔ ((v : ℕ) (es : List ℕ) → SimpleCycle v es → 0 < tokens_on μ es)
-  unfolding EveryCycleHolds
-  simple_cycles_enough μ = (
-    λ holds v es c. holds v es c.cycle,
-    λ simple v es c. let t = simple_inside μ v es c in omega (arith, simple t.0 t.1 t.2, t.3),
-  )

@@ -12,8 +12,8 @@ use Rattle.loops.specs.Fold.{fold_keeps}
 use Rattle.net.specs.Graph.{Graph, Shaped, tokens_on, Route, Emptiest, Linked}
 use Rattle.net.specs.Tables.{graph_of_tables}
 use Rattle.net.specs.Append.{tokens_on_append, route_append}
-use Rattle.net.specs.Shorten.{emptiest_bound}
-use Rattle.net.specs.Emptiest.{emptiest_or_none, emptiest_unique}
+use Rattle.net.proofs.Shorten.{emptiest_bound}
+use Rattle.net.proofs.Emptiest.{emptiest_or_none, emptiest_unique}
 use Rattle.routes.specs.Rows.{no_route, start, relaxed, sweep, emptiest_row}
 use Rattle.routes.specs.Relaxing.{EndsInRow, Stable, relaxed_there, relaxed_elsewhere, relaxed_le}
 use Rattle.routes.specs.Settling.{start_from, start_elsewhere, row_keeps, row_stable, row_most}

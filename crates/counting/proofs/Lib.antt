@@ -1,0 +1,5 @@
+pub mod Facts
+pub mod Rounding
+pub mod Exact
+pub mod Look
+pub mod Example
