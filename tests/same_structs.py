@@ -55,7 +55,7 @@ def source_structs(source):
 def source_functions(source, before):
     """Name: parameters, result and clauses of each public function with these words before `fn`."""
     found = re.findall(rf"^{before}fn (tamsklor_\w+)(.*?)\n\{{$", source, flags=re.M | re.S)
-    return {name: " ".join(signature.split()) for name, signature in found}
+    return {name: " ".join(signature.split()).replace("( ", "(").replace(", )", ")") for name, signature in found}
 
 
 def main():

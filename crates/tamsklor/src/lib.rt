@@ -123,13 +123,7 @@ fn as_token_answer(level: Level) -> TokenAnswer
 }
 
 // One call on a plan and a state by value: the answer as numbers, and the state that it leaves.
-pub fn tamsklor_run_stepped(
-    plan: Plan,
-    state: State,
-    code: u32,
-    process: u32,
-    edge: u32,
-) -> Stepped
+pub fn tamsklor_run_stepped(plan: Plan, state: State, code: u32, process: u32, edge: u32) -> Stepped
     ensures { (result.answer ≡ numbers_of_reply (step_call plan state code process edge).reply) × (result.state ≡ (step_call plan state code process edge).state) }
 {
     let turned = calls::step(plan, state, code, process, edge);
@@ -238,11 +232,7 @@ fn tokens_by_value(plan: Plan, state: State, edge: u32) -> TokenAnswer
 }
 
 // The token reading of an edge on the host's plan and state. Neither is changed.
-pub fn tamsklor_run_tokens<'a, 'b>(
-    plan: &'a Plan,
-    state: &'b State,
-    edge: u32,
-) -> TokenAnswer
+pub fn tamsklor_run_tokens<'a, 'b>(plan: &'a Plan, state: &'b State, edge: u32) -> TokenAnswer
     ensures { result ≡ numbers_of_level (reading_call plan.now state.now edge) }
 {
     tokens_by_value(*plan, *state, edge)
