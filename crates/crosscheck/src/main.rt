@@ -4,6 +4,9 @@
 // A read or a write that fails ends the stream and is told in one line on standard error.
 // The stored stream is what second/stored.c writes, and the stored answers are those of second/stream.c to it (second/README.md).
 ghost use Rattle.std.specs.Prelude.{◌≡◌, ◌≤◌, length};
+ghost use Rattle.std.specs.Bool.{OnTrue};
+ghost use Rattle.std.specs.Io.KnownBytes.{Appends};
+ghost use Rattle.transcript.specs.Text.{text_of};
 
 use std::io::{Read, Write};
 use std::time::Clock;
@@ -41,8 +44,15 @@ fn read<I: Read>(rt: &(impl Clock + Eprint), input: &mut I, buffer: &mut [u8]) -
 }
 
 // Writes a text: false where a write fails, which is told.
-fn print<O: Write>(rt: &(impl Clock + Eprint), output: &mut O, text: &[u8]) -> bool {
-    streams::write_all(rt, output, text, b"crosscheck: cannot write standard output")
+fn print<O: Write>(rt: &(impl Clock + Eprint), output: &mut O, text: &[u8]) -> bool
+    ensures { OnTrue result (Appends (O.contents output.old) (O.contents output.new) text.now) }
+{
+    streams::write_all(
+        rt,
+        output,
+        text,
+        b"crosscheck: cannot write standard output",
+    )
 }
 
 // Writes a number in decimal digits.
@@ -64,7 +74,9 @@ fn print_case<O: Write>(rt: &(impl Clock + Eprint), output: &mut O, number: u64)
 }
 
 // Writes the whole text of an input.
-fn print_text<O: Write>(rt: &(impl Clock + Eprint), output: &mut O, input: &[u8]) -> bool {
+fn print_text<O: Write>(rt: &(impl Clock + Eprint), output: &mut O, input: &[u8]) -> bool
+    ensures { OnTrue result (Appends (O.contents output.old) (O.contents output.new) (text_of input.now)) }
+{
     let mut out = text_buffer();
     let printed = transcript::transcript(input, &mut out);
     let Printed::Whole { length } = printed else {

@@ -48,11 +48,9 @@ fn table_of_64(record: &[u8; 65536], from: usize, apart: usize) -> [u16; 64]
 {
     let mut table: [u16; 64] = [0; 64];
     let mut offset = from;
-    let mut i: usize = 0;
-    while i < 64 {
+    for i in 0..64 {
         table[i] = pair_at(record, offset);
         offset += apart;
-        i += 1;
     }
     table
 }
@@ -62,12 +60,8 @@ fn table_of_512(record: &[u8; 65536], from: usize) -> [u16; 512]
     requires { from ≤ 65536 }
 {
     let mut table: [u16; 512] = [0; 512];
-    let mut offset = from;
-    let mut i: usize = 0;
-    while i < 512 {
-        table[i] = pair_at(record, offset);
-        offset += 6;
-        i += 1;
+    for i in 0..512 {
+        table[i] = pair_at(record, from + 6 * i);
     }
     table
 }
@@ -94,10 +88,8 @@ pub fn plan_in(record: &[u8; 65536]) -> Plan {
 // The open flags.
 fn flags_in(record: &[u8; 65536]) -> [u8; 64] {
     let mut flags: [u8; 64] = [0; 64];
-    let mut i: usize = 0;
-    while i < 64 {
+    for i in 0..64 {
         flags[i] = byte_at(record, 3736 + i);
-        i += 1;
     }
     flags
 }
@@ -105,10 +97,8 @@ fn flags_in(record: &[u8; 65536]) -> [u8; 64] {
 // The counters.
 fn counters_in(record: &[u8; 65536]) -> [u32; 64] {
     let mut counters: [u32; 64] = [0; 64];
-    let mut i: usize = 0;
-    while i < 64 {
+    for i in 0..64 {
         counters[i] = number_at(record, 3800 + 4 * i);
-        i += 1;
     }
     counters
 }
@@ -132,13 +122,10 @@ fn mark_place(process: u8, edge: u16) -> usize
 // The marks.
 fn marks_in(record: &[u8; 65536]) -> [u8; 32768] {
     let mut marks: [u8; 32768] = [0; 32768];
-    let count = marks_count(record);
-    let mut i: usize = 0;
-    while i < count {
+    for i in 0..marks_count(record) {
         let offset = 4062 + 4 * i;
         let mark = mark_place(byte_at(record, offset), pair_at(record, offset + 2));
         marks[mark] = byte_at(record, offset + 1);
-        i += 1;
     }
     marks
 }

@@ -29,10 +29,8 @@ fn put_counters(
     offset: usize,
 ) -> usize {
     let mut next = offset;
-    let mut c: usize = 0;
-    while c < 64 {
+    for c in 0..64 {
         next = put_counter(rt, out, next, c as u32, counters[c]);
-        c += 1;
     }
     next
 }
@@ -97,13 +95,11 @@ fn put_marks(
 {
     let row = 512 * p;
     let mut next = offset;
-    let mut e: usize = 0;
-    while e < 512 {
+    for e in 0..512 {
         let value = marks[row + e];
         if 0 < value {
             next = put_mark(rt, out, next, p as u32, e as u32, value);
         }
-        e += 1;
     }
     next
 }
@@ -118,11 +114,9 @@ fn put_processes<'a>(
     offset: usize,
 ) -> usize {
     let mut next = offset;
-    let mut p: usize = 0;
-    while p < 64 {
+    for p in 0..64 {
         let behind_process = put_process_if(rt, out, next, p as u32, positions[p], opened[p]);
         next = put_marks(rt, marks, p, out, behind_process);
-        p += 1;
     }
     next
 }

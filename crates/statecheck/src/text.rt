@@ -48,10 +48,8 @@ pub fn put_word(
     word: &[u8],
 ) -> usize {
     let mut next = offset;
-    let mut i: usize = 0;
-    while i < word.len() {
-        next = put(rt, out, next, word[i]);
-        i += 1;
+    for byte in word {
+        next = put(rt, out, next, *byte);
     }
     next
 }
