@@ -6,16 +6,15 @@ use Rattle.std.proofs.Math.Bool.{true, false}
 use Rattle.std.proofs.Common.{arith}
 use Rattle.loops.specs.Choice.{if}
 use Rattle.plan.specs.declared.Plan.{Plan}
-use Rattle.plan.specs.Faults.{CountsFit, Fault3}
+use Rattle.plan.specs.Faults.{CountsFit}
 use Rattle.plan.specs.Tests.{refuse_lowest, order_then, tables_then}
 use Rattle.plan.specs.Passed.{passes_3, counts_pass}
 use Rattle.plan.specs.Tables.{Tabled}
 use Rattle.plan.specs.Formed.{tabled}
 use Rattle.plan.specs.Order.{NoneOf}
-use Rattle.plan.specs.Chain.{Outcome, decides_final}
+use Rattle.plan.specs.Chain.{decides_final}
 use Rattle.plan.specs.Faults.{tables_order}
 use Rattle.plan.specs.Decided.{tables_decided}
-use Rattle.entries.specs.declared.Checked.{Checked}
 use Rattle.entries.specs.declared.Checked.TheVariants.{Passed, Refused}
 use Rattle.entries.specs.Answer.{tables_answer, after_tables}
 

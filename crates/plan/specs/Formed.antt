@@ -13,7 +13,7 @@ use Rattle.net.specs.Graph.{Shaped}
 use Rattle.net.specs.Tables.{graph_of_tables}
 use Rattle.plan.specs.declared.Plan.{Plan}
 use Rattle.plan.specs.Value.{graph_of, base, share, counter_sum}
-use Rattle.plan.specs.Faults.{CountsFit, Fault3, Fault5, Fault6, Fault7, Fault8, Above, InShape}
+use Rattle.plan.specs.Faults.{Fault3, Fault5, Fault6, Fault7, Fault8, Above, InShape}
 use Rattle.plan.specs.Tests.{refuse_lowest, order_then, tables_then, q_fits, plan_fits}
 use Rattle.plan.specs.Order.{Passes}
 use Rattle.plan.specs.Tables.{Tabled}

@@ -12,7 +12,7 @@ use borrow.Author.Tests.{ltb-true, ltb-false, eqb-true, eqb-false, lt-ltb, le-lt
 use Rattle.loops.specs.Choice.{at, if_false}
 use Rattle.loops.specs.First.{first_below, first_here, first_none, first_unique}
 use Rattle.loops.specs.Sum.{sum, sum_step}
-use Rattle.loops.specs.Table.{padded, padded_at}
+use Rattle.loops.specs.Table.{padded_at}
 use Rattle.net.specs.Processes.{Edge}
 use Rattle.net.specs.Tables.{graph_of_tables}
 use Rattle.plan.specs.declared.Plan.{Plan}

@@ -1,12 +1,6 @@
-use Rattle.std.proofs.Common.{◌-◌, ◌≡◌, ◌+◌, ◌*◌, ◌<◌, ◌≤◌, max, eqb, ℕ, length}
-use Rattle.loops.specs.Choice.{at, if, flags}
-use Rattle.loops.specs.First.{first}
-use Rattle.loops.specs.Any.{any, Any, anys}
-use Rattle.loops.specs.Row.{stored}
-use Rattle.loops.specs.Table.{padded}
-use Rattle.routes.specs.Rows.{no_route}
-use Rattle.routes.specs.Relaxing.{Low, EndsInRow}
-use Rattle.cycles.specs.Lent.{loop_sum_in, entered, free_in, closes_free_in, on_free_cycle_in, no_way_back_in, not_above_in, asks_in, most_asked, Known, Small}
+use Rattle.std.proofs.Common.{◌-◌}
+use Rattle.loops.specs.Any.{Any}
+use Rattle.cycles.specs.Lent.{closes_free_in}
 use Rattle.cycles.proofs.on_free_cycle_at.Given as goal
 
 abbrev pub invariant-loop-e : goal.invariant-loop-e

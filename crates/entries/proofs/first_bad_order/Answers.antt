@@ -1,10 +1,5 @@
-use Rattle.std.proofs.Common.{rules, ◌≡◌, [], ◌<◌, ◌≤◌, ℕ, ◌+◌, ◌-◌, ◌*◌, length, ◌/◌, ◌%◌, Bool, true, false, nat_eq, nat_lt, List, ◌∷◌, ◌++◌, slice_index_or, slice_set, bit_and, bit_or, Fits, w8, w32, w64, Bor, MutBor, arith}
-use Rattle.loops.specs.First.{first}
-use Rattle.plan.specs.Value.{plan_with}
-use Rattle.entries.specs.Answer.{order_answer, tables_answer}
-use Rattle.plan.specs.Tests.{outside, bad_counts, zero_length, bad_order, bad_node, not_above, not_rising, bad_edge}
-use Rattle.std.proofs.lemmas.Grind.{common_steps}
-use Rattle.entries.specs.Seen.{Seeing, seeing_begin, seeing_more, seeing_high, seeing_seen, seeing_over}
+use Rattle.std.proofs.Common.{rules, arith}
+use Rattle.entries.specs.Seen.{seeing_begin, seeing_more, seeing_high, seeing_seen, seeing_over}
 use Rattle.entries.proofs.first_bad_order.Goals as goal
 
 pub loop-i-init : goal.loop-i-init

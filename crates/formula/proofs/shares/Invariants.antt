@@ -1,9 +1,7 @@
-use Rattle.std.proofs.Common.{◌-◌, ◌≡◌, ◌+◌, ◌%◌, ◌<◌, ℕ, ◌*◌, ◌≤◌, length}
+use Rattle.std.proofs.Common.{◌-◌, ◌+◌, ◌*◌, ◌≤◌}
 use Rattle.loops.specs.Choice.{at}
 use Rattle.plan.specs.Value.{share}
-use Rattle.counting.specs.Modular.{rounded_up, minus_modulo, finds, reading_printed}
-use Rattle.formula.specs.Lists.{SeatsOk, PlacedOk, CountedOk, FormulaOk, RaiseOk, raised_in, shares_in, earlier_in, b_in}
-use Rattle.loops.specs.Sum.{Sum, sums}
+use Rattle.loops.specs.Sum.{Sum}
 use Rattle.formula.proofs.shares.Given as goal
 
 abbrev pub invariant-loop-j : goal.invariant-loop-j

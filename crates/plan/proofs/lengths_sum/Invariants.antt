@@ -1,8 +1,6 @@
-use Rattle.std.proofs.Common.{◌-◌, ◌≡◌, ◌<◌, ◌≤◌, ℕ, ◌+◌, ◌*◌, length}
+use Rattle.std.proofs.Common.{◌-◌, ◌≤◌, ◌*◌}
 use Rattle.loops.specs.Choice.{at}
-use Rattle.loops.specs.Sum.{sum, Sum, sums}
-use Rattle.plan.specs.Value.{base, share}
-use Rattle.plan.specs.Tests.{process_at}
+use Rattle.loops.specs.Sum.{Sum}
 use Rattle.plan.proofs.lengths_sum.Given as goal
 
 abbrev pub invariant-loop-p : goal.invariant-loop-p

@@ -1,10 +1,7 @@
-use Rattle.std.proofs.Common.{rules, ◌≡◌, ◌<◌, ◌≤◌, ℕ, ◌+◌, ◌-◌, ◌*◌, length, ◌/◌, ◌%◌, Bool, true, false, nat_eq, nat_lt, List, [], ◌∷◌, ◌++◌, slice_index_or, slice_set, bit_and, bit_or, Fits, w8, w32, w64, Bor, MutBor, arith}
-use Rattle.loops.specs.Choice.{at}
-use Rattle.loops.specs.Sum.{sum, Sum, sums}
-use Rattle.plan.specs.Value.{base, share}
-use Rattle.plan.specs.Tests.{process_at, ends_past}
-use Rattle.std.proofs.lemmas.Grind.{common_steps}
-use Rattle.loops.specs.First.{First, firsts, first_hit, first_miss}
+use Rattle.std.proofs.Common.{rules}
+use Rattle.loops.specs.Sum.{sums}
+use Rattle.plan.specs.Tests.{process_at}
+use Rattle.loops.specs.First.{firsts, first_hit, first_miss}
 use Rattle.plan.specs.Running.{ends_here, ends_before}
 use mathlib.Core.Path.{refl}
 use Rattle.plan.proofs.process_of_order_position.Goals as goal

@@ -1,11 +1,8 @@
-use Rattle.std.proofs.Common.{◌-◌, ◌≡◌, ◌<◌, ◌≤◌, ℕ, ◌+◌, ◌*◌, length}
+use Rattle.std.proofs.Common.{◌-◌, ◌≤◌, ◌*◌}
 use Rattle.loops.specs.Choice.{at}
-use Rattle.loops.specs.Sum.{sum, Sum, sums}
-use Rattle.plan.specs.Value.{base, share}
-use Rattle.plan.specs.Tests.{process_at, ends_past}
-use Rattle.loops.specs.First.{First, firsts, first_hit, first_miss}
-use Rattle.plan.specs.Running.{ends_here, ends_before}
-use mathlib.Core.Path.{refl}
+use Rattle.loops.specs.Sum.{Sum}
+use Rattle.plan.specs.Tests.{ends_past}
+use Rattle.loops.specs.First.{First}
 use Rattle.plan.proofs.process_of_order_position.Given as goal
 
 abbrev pub invariant-loop-p : goal.invariant-loop-p

@@ -1,6 +1,6 @@
-use Rattle.std.proofs.Common.{◌-◌, ◌≡◌, ◌<◌, ◌≤◌, ℕ, ◌+◌, ◌*◌, length}
+use Rattle.std.proofs.Common.{◌-◌, ◌≤◌}
 use Rattle.loops.specs.Choice.{at, one_if}
-use Rattle.loops.specs.Sum.{sum, Sum, sums}
+use Rattle.loops.specs.Sum.{Sum}
 use Rattle.ranges.specs.Range.{out_of_range}
 use Rattle.ranges.proofs.positions_bad.Given as goal
 

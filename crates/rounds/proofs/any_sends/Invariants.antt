@@ -1,9 +1,6 @@
-use Rattle.std.proofs.Common.{◌-◌, ◌≡◌, ◌<◌, ◌≤◌, ℕ, ◌+◌, ◌*◌, length}
-use Rattle.loops.specs.First.{first}
-use Rattle.loops.specs.Any.{any, Any, anys}
-use Rattle.plan.specs.Value.{base}
-use Rattle.rounds.specs.Lent.{is_edge, is_last, fires_after, edge_tokens, lacks_edge, has_counter, strays_in, bad_counter_in, sends_in, bad_increment_in, bad_sum_in}
-use Rattle.loops.specs.Choice.{flags}
+use Rattle.std.proofs.Common.{◌-◌}
+use Rattle.loops.specs.Any.{Any}
+use Rattle.rounds.specs.Lent.{sends_in}
 use Rattle.rounds.proofs.any_sends.Given as goal
 
 abbrev pub invariant-loop-e : goal.invariant-loop-e

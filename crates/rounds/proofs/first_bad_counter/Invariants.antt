@@ -1,8 +1,6 @@
-use Rattle.std.proofs.Common.{◌-◌, ◌≡◌, ◌<◌, ◌≤◌, ℕ, ◌+◌, ◌*◌, length}
-use Rattle.loops.specs.First.{first, First, firsts}
-use Rattle.loops.specs.Any.{any}
-use Rattle.plan.specs.Value.{base}
-use Rattle.rounds.specs.Lent.{is_edge, is_last, fires_after, edge_tokens, lacks_edge, has_counter, strays_in, bad_counter_in, sends_in, bad_increment_in, bad_sum_in}
+use Rattle.std.proofs.Common.{◌-◌}
+use Rattle.loops.specs.First.{First}
+use Rattle.rounds.specs.Lent.{bad_counter_in}
 use Rattle.rounds.proofs.first_bad_counter.Given as goal
 
 abbrev pub invariant-loop-c : goal.invariant-loop-c

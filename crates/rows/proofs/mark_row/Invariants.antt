@@ -1,10 +1,6 @@
-use Rattle.std.proofs.Common.{◌-◌, ◌≡◌, ◌+◌, ◌<◌, ◌≤◌, ltb, ℕ, ◌*◌, length}
-use Rattle.loops.specs.Choice.{at, one_if}
-use Rattle.loops.specs.Sum.{sum}
-use Rattle.loops.specs.Table.{padded}
-use Rattle.plan.specs.Value.{base}
-use Rattle.rows.specs.Lists.{NextsOk, next_in, wanted, allowed_row, row_above, rows_above, row_left, with_row}
-use Rattle.loops.specs.Row.{Row, rows}
+use Rattle.std.proofs.Common.{◌-◌, ◌≡◌, ◌*◌}
+use Rattle.loops.specs.Choice.{at}
+use Rattle.loops.specs.Row.{Row}
 use Rattle.rows.proofs.mark_row.Given as goal
 
 abbrev pub invariant-loop-e : goal.invariant-loop-e

@@ -1,9 +1,6 @@
-use Rattle.std.proofs.Common.{◌-◌, ◌≡◌, ◌+◌, ◌<◌, ◌≤◌, ltb, ℕ, ◌*◌, length}
-use Rattle.loops.specs.Choice.{at, one_if}
-use Rattle.loops.specs.Sum.{sum}
-use Rattle.loops.specs.Table.{padded, Fill, fills}
-use Rattle.plan.specs.Value.{base}
-use Rattle.rows.specs.Lists.{NextsOk, next_in, wanted, allowed_row, row_above, rows_above, row_left, with_row}
+use Rattle.std.proofs.Common.{◌-◌}
+use Rattle.loops.specs.Table.{Fill}
+use Rattle.rows.specs.Lists.{next_in}
 use Rattle.rows.proofs.next_nodes.Given as goal
 
 abbrev pub invariant-loop-p : goal.invariant-loop-p

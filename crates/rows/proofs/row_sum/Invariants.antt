@@ -1,9 +1,6 @@
-use Rattle.std.proofs.Common.{◌-◌, ◌≡◌, ◌+◌, ◌<◌, ◌≤◌, ltb, ℕ, ◌*◌, length}
-use Rattle.loops.specs.Choice.{at, one_if}
-use Rattle.loops.specs.Sum.{sum, Sum, sums}
-use Rattle.loops.specs.Table.{padded}
-use Rattle.plan.specs.Value.{base}
-use Rattle.rows.specs.Lists.{NextsOk, next_in, wanted, allowed_row, row_above, rows_above, row_left, with_row}
+use Rattle.std.proofs.Common.{◌-◌, ◌≤◌, ◌*◌}
+use Rattle.loops.specs.Choice.{at}
+use Rattle.loops.specs.Sum.{Sum}
 use Rattle.rows.proofs.row_sum.Given as goal
 
 abbrev pub invariant-loop-e : goal.invariant-loop-e

@@ -1,11 +1,5 @@
-use Rattle.std.proofs.Common.{rules, ◌≡◌, ◌<◌, ◌≤◌, ℕ, ◌+◌, ◌-◌, ◌*◌, length, ◌/◌, ◌%◌, Bool, true, false, nat_eq, nat_lt, List, [], ◌∷◌, ◌++◌, slice_index_or, slice_set, bit_and, bit_or, Fits, w8, w32, w64, Bor, MutBor, arith}
-use Rattle.loops.specs.Choice.{at}
-use Rattle.loops.specs.Table.{padded}
-use Rattle.plan.specs.Onto.{Once}
-use Rattle.plan.specs.Tests.{stands_at, order_position, home_of, different}
-use Rattle.seats.specs.Housed.{ended, Housed, ended_means, housed_begin, housed_on, housed_more, housed_over}
-use Rattle.seats.specs.Crossing.{crosses, EndsOk}
-use Rattle.std.proofs.lemmas.Grind.{common_steps}
+use Rattle.std.proofs.Common.{rules, arith}
+use Rattle.seats.specs.Housed.{ended_means, housed_begin, housed_on, housed_more, housed_over}
 use Rattle.seats.proofs.homes.Goals as goal
 
 pub loop-i-init : goal.loop-i-init

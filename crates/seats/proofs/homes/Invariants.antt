@@ -1,11 +1,5 @@
-use Rattle.std.proofs.Common.{◌-◌, ◌≡◌, ◌<◌, ◌≤◌, ℕ, ◌+◌, ◌*◌, length}
-use Rattle.loops.specs.Choice.{at}
-use Rattle.loops.specs.Table.{padded}
-use Rattle.plan.specs.Onto.{Once}
-use Rattle.plan.specs.Tests.{stands_at, order_position, home_of, different}
-use Rattle.seats.specs.Housed.{ended, Housed, ended_means, housed_begin, housed_on, housed_more, housed_over}
-use Rattle.seats.specs.Crossing.{crosses, EndsOk}
-use native.Mathlib.Omega.{arith}
+use Rattle.std.proofs.Common.{◌-◌, ◌+◌}
+use Rattle.seats.specs.Housed.{Housed}
 use Rattle.seats.proofs.homes.Given as goal
 
 abbrev pub invariant-loop-i : goal.invariant-loop-i

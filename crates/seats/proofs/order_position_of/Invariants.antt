@@ -1,11 +1,6 @@
-use Rattle.std.proofs.Common.{◌-◌, ◌≡◌, ◌<◌, ◌≤◌, ℕ, ◌+◌, ◌*◌, length}
-use Rattle.loops.specs.Choice.{at}
-use Rattle.loops.specs.Table.{padded}
-use Rattle.plan.specs.Onto.{Once}
-use Rattle.plan.specs.Tests.{stands_at, order_position, home_of, different}
-use Rattle.seats.specs.Housed.{ended}
-use Rattle.seats.specs.Crossing.{crosses, EndsOk}
-use Rattle.loops.specs.First.{First, firsts}
+use Rattle.std.proofs.Common.{◌-◌}
+use Rattle.plan.specs.Tests.{stands_at}
+use Rattle.loops.specs.First.{First}
 use Rattle.seats.proofs.order_position_of.Given as goal
 
 abbrev pub invariant-loop-i : goal.invariant-loop-i

@@ -1,12 +1,6 @@
-use Rattle.std.proofs.Common.{rules, ◌≡◌, ◌≤◌, eqb, leb, ℕ, ◌+◌, ◌-◌, ◌*◌, ◌<◌, length, ◌/◌, ◌%◌, Bool, true, false, nat_lt, List, [], ◌∷◌, ◌++◌, slice_index_or, slice_set, bit_and, bit_or, Fits, w8, w32, w64, Bor, MutBor, arith}
-use Rattle.loops.specs.Choice.{both}
-use Rattle.loops.specs.Sum.{sum}
-use Rattle.plan.specs.Value.{share, plan_with, counter_sum}
-use Rattle.plan.specs.Tests.{plan_fits, order_then, tables_then, q_fits}
-use Rattle.std.proofs.lemmas.Grind.{common_steps}
+use Rattle.plan.specs.Value.{plan_with, counter_sum}
+use Rattle.plan.specs.Tests.{order_then, tables_then, q_fits}
 use mathlib.Core.Path.{sym, ◌∙◌}
-use Rattle.plan.specs.declared.Plan.{Plan}
-use Rattle.plan.specs.Faults.{CountsFit}
 use Rattle.plan.specs.Passed.{counts_fit}
 use Rattle.entries.specs.Answer.{tables_answer}
 use Rattle.shape.specs.Steps.{stops_at_3, stops_at_tables, goes_to_q}

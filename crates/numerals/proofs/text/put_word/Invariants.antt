@@ -1,6 +1,5 @@
-use Rattle.std.proofs.Common.{length, ◌-◌, ◌≡◌, [], ◌∷◌, ◌+◌, ◌<◌, ◌≤◌, ℕ, ◌*◌}
-use Rattle.numerals.specs.Decimal.{decimal, number_then}
-use Rattle.numerals.specs.Writing.{Put, put_none, put_next, put_over}
+use Rattle.std.proofs.Common.{length, ◌-◌, ◌≡◌, ◌+◌, ◌≤◌}
+use Rattle.numerals.specs.Writing.{Put}
 use lib.ListN.{take}
 use Rattle.numerals.proofs.text.put_word.Given as goal
 
