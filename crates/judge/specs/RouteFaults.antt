@@ -19,7 +19,7 @@ use Rattle.net.specs.Tables.{graph_of_tables}
 use Rattle.plan.specs.declared.Plan.{Plan}
 use Rattle.plan.specs.Value.{graph_of, Synchronising, counter_sum, edge_sum}
 use Rattle.routes.specs.Rows.{no_route, emptiest_row}
-use Rattle.routes.specs.Emptiest.{row_some, row_emptiest, row_small, row_is}
+use Rattle.routes.proofs.Emptiest.{row_some, row_emptiest, row_small, row_is}
 use Rattle.plan.specs.Tables.{Tabled}
 use Rattle.plan.specs.Formed.{shaped}
 use Rattle.judge.specs.Conditions.{RouteBack, C0, Multiple, Exceeds, C4}

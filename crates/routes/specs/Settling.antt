@@ -1,16 +1,15 @@
--- A row that is relaxed until its sum no longer falls: what a sweep keeps it has, and no edge can lower it.
--- `search (needs, settlings)` answers such a loop's needs. Assumes nothing.
+-- A row that is relaxed until its sum no longer falls: what a sweep keeps it has.
+-- Assumes nothing.
 use Prim.Native.Nat.{ℕ, zero, suc, ◌+◌, ◌<◌, ◌≤◌}
 use Rattle.std.proofs.Math.Decide.{ℕ_discrete, dec_lt}
 use Rattle.std.proofs.Common.{arith, sym, ap, ◌∙◌, eq-eqb, ne_eqb, get_or-set_same, get_or-set_other}
-use Rattle.std.specs.Prelude.{◌≡◌, refl, List, eqb, replicate}
+use Rattle.std.specs.Prelude.{◌≡◌, List, eqb, replicate}
 use Rattle.std.proofs.Math.Path.{subst}
 use Rattle.std.proofs.lemmas.List.{length-replicate, get_or-replicate}
 use Rattle.std.proofs.Math.ListN.{get_or-eq_default}
 use Rattle.loops.specs.Choice.{at, if_true, if_false}
-use Rattle.loops.specs.Sum.{sum_le}
 use Rattle.routes.specs.Rows.{no_route, enough_sweeps, total, start, sweep, settled, emptiest_row}
-use Rattle.routes.specs.Relaxing.{Low, EndsInRow, Stable, sweep_le, sweep_total_le, sweep_kept}
+use Rattle.routes.specs.Relaxing.{Low, sweep_le}
 
 -- the start: 0 at `from`
 pub start_from : (from : ℕ) → from < 64 → at (start from) from ≡ 0
@@ -22,7 +21,7 @@ pub start_elsewhere : (from v : ℕ) → v < 64 → (v ≡ from → ⊥) → at 
 unfolding start
 start_elsewhere from v h p = get_or-set_other (replicate 64 no_route) from v 0 0 p ∙ get_or-replicate 64 v no_route 0 h
 
-start_low : (from : ℕ) → from < 64 → Low (start from)
+pub start_low : (from : ℕ) → from < 64 → Low (start from)
 unfolding start
 start_low from h v =
     elim (ℕ_discrete v from) [
@@ -39,10 +38,6 @@ start_low from h v =
           ]
     ]
 
-start_total : (from : ℕ) → from < 64 → total (start from) < enough_sweeps
-unfolding total
-start_total from h = omega (arith, sum_le (at (start from)) no_route (start_low from h) 64)
-
 module _ (source destination tokens : List ℕ) (edges : ℕ) where
   -- `sweep`, `settled` and `emptiest_row` with these tables
   abbrev next : List ℕ → List ℕ
@@ -55,11 +50,11 @@ module _ (source destination tokens : List ℕ) (edges : ℕ) where
   answer = emptiest_row source destination tokens edges
 
   -- a sweep that does not lower the sum is the last
-  settled_last : (sweeps : ℕ) (row : List ℕ) → total (next row) ≡ total row → settle (suc sweeps) row ≡ next row
+  pub settled_last : (sweeps : ℕ) (row : List ℕ) → total (next row) ≡ total row → settle (suc sweeps) row ≡ next row
   unfolding settled
   settled_last sweeps row e = if_true (eqb (total (next row)) (total row)) (next row) (settle sweeps (next row)) (eq-eqb (total (next row)) (total row) e)
 
-  settled_more : (sweeps : ℕ) (row : List ℕ) → (total (next row) ≡ total row → ⊥) → settle (suc sweeps) row ≡ settle sweeps (next row)
+  pub settled_more : (sweeps : ℕ) (row : List ℕ) → (total (next row) ≡ total row → ⊥) → settle (suc sweeps) row ≡ settle sweeps (next row)
   unfolding settled
   settled_more sweeps row f = if_false (eqb (total (next row)) (total row)) (next row) (settle sweeps (next row)) (ne_eqb (total (next row)) (total row) f)
 
@@ -72,28 +67,10 @@ module _ (source destination tokens : List ℕ) (edges : ℕ) where
         | no f ↦ subst P (sym (settled_more sweeps row f)) (settled_keeps P h sweeps (next row) (h row p))
       ]
 
-  settled_stable : EndsInRow source destination edges → (sweeps : ℕ) (row : List ℕ) → total row < sweeps
-      → Stable source destination tokens edges (settle sweeps row)
-  settled_stable ends zero row h = absurd (omega arith)
-  settled_stable ends (suc sweeps) row h =
-      elim (ℕ_discrete (total (next row)) (total row)) [
-        | yes e ↦
-            let k = sweep_kept source destination tokens row edges ends e in
-            subst (Stable source destination tokens edges) (sym (settled_last sweeps row e ∙ k.0)) k.1
-        | no f ↦
-            subst (Stable source destination tokens edges) (sym (settled_more sweeps row f))
-            (settled_stable ends sweeps (next row) (omega (arith, sweep_total_le source destination tokens row edges)))
-      ]
-
   -- what the start has and a sweep keeps, the answer has
   pub row_keeps : (P : List ℕ → Type 0) → ((row : List ℕ) → P row → P (next row)) → (from : ℕ) → P (start from) → P (answer from)
   unfolding emptiest_row
   row_keeps P h from p = settled_keeps P h enough_sweeps (start from) p
-
-  -- no edge can lower the answer
-  pub row_stable : EndsInRow source destination edges → (from : ℕ) → from < 64 → Stable source destination tokens edges (answer from)
-  unfolding emptiest_row
-  row_stable ends from h = settled_stable ends enough_sweeps (start from) (start_total from h)
 
   -- no entry of it is above `no_route`
   pub row_most : (from v : ℕ) → from < 64 → at (answer from) v ≤ no_route
@@ -106,12 +83,6 @@ pub record Settling (source destination tokens : List ℕ) (edges : ℕ) (answer
   pub enough : total row < sweeps
   pub rest : answer ≡ settled source destination tokens edges sweeps row
   pub bound : Low row
-
-pub settling_begin : (source destination tokens : List ℕ) (edges from : ℕ) → from < 64
-    → Settling source destination tokens edges (emptiest_row source destination tokens edges from) (start from)
-unfolding emptiest_row
-settling_begin source destination tokens edges from h =
-    record { sweeps = enough_sweeps; enough = start_total from h; rest = refl; bound = start_low from h }
 
 module _ {source destination tokens : List ℕ} {edges : ℕ} {answer row out : List ℕ} {drop : ℕ}
     (inv : Settling source destination tokens edges answer row) (p : out ≡ sweep source destination tokens edges row) (q : drop + total out ≡ total row) where
@@ -139,5 +110,3 @@ module _ {source destination tokens : List ℕ} {edges : ℕ} {answer row out : 
       go : (sweeps : ℕ) → total row < sweeps → answer ≡ settled source destination tokens edges sweeps row → out ≡ answer
       go zero h r = absurd (omega arith)
       go (suc sweeps) h r = p ∙ sym (r ∙ settled_last source destination tokens edges sweeps row (omega (arith, ap total p)))
-
-pub ruleset settlings = (settling_begin, settling_more, settling_over)

@@ -1,7 +1,5 @@
-use Rattle.std.proofs.Common.{◌≡◌, ◌+◌, ◌<◌, ◌≤◌, min, ℕ, ◌-◌, ◌*◌, length}
-use Rattle.routes.specs.Rows.{no_route, total, sweep, emptiest_row, start}
-use Rattle.routes.specs.Relaxing.{Low, EndsInRow}
-use Rattle.routes.specs.Settling.{Settling, settlings}
+use Rattle.routes.specs.Rows.{total, emptiest_row}
+use Rattle.routes.specs.Settling.{Settling}
 use Rattle.routes.proofs.emptiest_row.Given as goal
 
 abbrev pub invariant-loop-row : goal.invariant-loop-row

@@ -1,7 +1,6 @@
-use Rattle.std.proofs.Common.{rules, ◌≡◌, ◌+◌, ◌<◌, ◌≤◌, min, ℕ, ◌-◌, ◌*◌, length, ◌/◌, ◌%◌, Bool, true, false, nat_eq, nat_lt, List, [], ◌∷◌, ◌++◌, slice_index_or, slice_set, bit_and, bit_or, Fits, w8, w32, w64, Bor, MutBor, arith}
-use Rattle.routes.specs.Rows.{no_route, total, sweep, emptiest_row}
-use Rattle.routes.specs.Relaxing.{Low, EndsInRow, Relaxing, relaxing_begin, relaxing_more, relaxing_over, relaxing_low, relaxing_fits, indices}
-use Rattle.std.proofs.lemmas.Grind.{common_steps}
+use Rattle.std.proofs.Common.{rules, arith}
+use Rattle.routes.specs.Relaxing.{relaxing_begin, relaxing_over, relaxing_low, relaxing_fits, indices}
+use Rattle.routes.proofs.Relaxing.{relaxing_more}
 use Rattle.routes.proofs.relax_sweep.Goals as goal
 
 pub loop-e-init : goal.loop-e-init

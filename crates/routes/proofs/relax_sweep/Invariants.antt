@@ -1,7 +1,5 @@
-use Rattle.std.proofs.Common.{◌-◌, ◌≡◌, ◌+◌, ◌<◌, ◌≤◌, min, ℕ, ◌*◌, length}
-use Rattle.routes.specs.Rows.{no_route, total, sweep, emptiest_row}
-use Rattle.routes.specs.Relaxing.{Low, EndsInRow, Relaxing, relaxing_begin, relaxing_more, relaxing_over, relaxing_low, relaxing_fits, indices}
-use native.Mathlib.Omega.{arith}
+use Rattle.std.proofs.Common.{◌-◌}
+use Rattle.routes.specs.Relaxing.{Relaxing}
 use Rattle.routes.proofs.relax_sweep.Given as goal
 
 abbrev pub invariant-loop-e : goal.invariant-loop-e

@@ -16,7 +16,8 @@ use Rattle.net.proofs.Shorten.{emptiest_bound}
 use Rattle.net.proofs.Emptiest.{emptiest_or_none, emptiest_unique}
 use Rattle.routes.specs.Rows.{no_route, start, relaxed, sweep, emptiest_row}
 use Rattle.routes.specs.Relaxing.{EndsInRow, Stable, relaxed_there, relaxed_elsewhere, relaxed_le}
-use Rattle.routes.specs.Settling.{start_from, start_elsewhere, row_keeps, row_stable, row_most}
+use Rattle.routes.specs.Settling.{start_from, start_elsewhere, row_keeps, row_most}
+use Rattle.routes.proofs.Settling.{row_stable}
 
 module _ (nodes edges : ℕ) (source destination tokens : List ℕ) where
   -- the tables' graph
