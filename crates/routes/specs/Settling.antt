@@ -1,5 +1,5 @@
 -- A row that is relaxed until its sum no longer falls: what a sweep keeps it has, and no edge can lower it.
--- `search (needs, settlings)` answers such a loop's needs. Assumes nothing.
+-- `search (rules, settlings)` answers such a loop's goals. Assumes nothing.
 use Prim.Native.Nat.{ℕ, zero, suc, ◌+◌, ◌<◌, ◌≤◌}
 use Rattle.std.proofs.Math.Decide.{ℕ_discrete, dec_lt}
 use Rattle.std.proofs.Common.{arith, sym, ap, ◌∙◌, eq-eqb, ne_eqb, get_or-set_same, get_or-set_other}
