@@ -16,7 +16,7 @@ Fails, one line each, where
 - a theorem, or a definition that is marked neither `abbrev` nor `unfoldable`, is reached;
 - a file marked as definitions only holds anything else;
 - a name of a statement or of a reached definition cannot be resolved;
-- a statement file of STATED is missing, or stands twice;
+- a statement file of STATED is missing;
 - a public statement of Demands.antt is not proved by one citation of another file's proof.
 
     believed.py              check the tree
@@ -553,9 +553,9 @@ class Check:
         self.faults, self.statements, self.reached, self.shorthands, self.sources = [], 0, {}, [], set()
         names = self.tree.names()
         for crate in STATED:
-            found = [name for name in stated(crate) if name in names]
-            if len(found) != 1 and (crate == next(iter(STATED)) or (root / "crates" / crate).is_dir()):
-                self.faults.append(f"{STATED[crate]}.antt of {crate} {'stands twice' if found else 'is missing'}")
+            wanted = crate == next(iter(STATED)) or (root / "crates" / crate).is_dir()
+            if wanted and not any(name in names for name in stated(crate)):
+                self.faults.append(f"{STATED[crate]}.antt of {crate} is missing")
         for name in names:
             leading = (root / name).read_text(encoding="utf-8")
             if is_stated(name) or STATEMENTS in leading or DEFINITIONS in leading:
@@ -804,8 +804,9 @@ TREES = [
     ("the same below proofs", "crates/judge/proofs/Theorems.antt: sound > lemma: lemma is a theorem",
      [("crates/judge/proofs/Theorems.antt", "", "lemma : Type 0\nlemma = Unit {0}\n\npub sound : lemma\nsound = tt\n")]),
     ("a statement file that is gone", "Theorems.antt of judge is missing", [("crates/judge/specs/Lib.antt", "", "-- nothing\n")]),
-    ("two statement files", "Theorems.antt of judge stands twice",
-     [(f"crates/judge/{below}/Theorems.antt", "", "pub sound : Unit {0}\nsound = tt\n") for below in BELOW]),
+    ("two statement files", "crates/judge/proofs/Theorems.antt: sound > lemma: lemma is a theorem",
+     [("crates/judge/specs/Theorems.antt", "", "pub sound : Unit {0}\nsound = tt\n"),
+      ("crates/judge/proofs/Theorems.antt", "", "lemma : Type 0\nlemma = Unit {0}\n\npub sound : lemma\nsound = tt\n")]),
     ("a proof of several steps", "small is not proved by one citation: it holds `let`", [(DEMANDS, "small = laws.small pl", "small = let p = pl in laws.small p")]),
     ("a proof by a tactic", "small is not proved by one citation: it holds `grind`", [(DEMANDS, "small = laws.small pl", "small = grind laws.small")]),
     ("a proof put together", "small is not proved by one citation: it does not begin with the name of a proof", [(DEMANDS, "small = laws.small pl", "small = (laws.small pl, pl)")]),

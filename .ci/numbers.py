@@ -76,15 +76,11 @@ def definitions_missing(cell):
     if len(ticked(cell)) != sum(len(ticked(names)) + 1 for names, _, _ in groups) or not groups:
         yield f"not of the form `name` (`crate/File`): {cell}"
     for names, crate, file in groups:
-        places = [ROOT / "crates" / crate / below / (file + ".antt") for below in ("specs", "proofs")]
-        found = [path for path in places if path.is_file()]
-        if len(found) != 1:
-            yield f"{crate}/{file} is {'two files' if found else 'no file'} of specs/ and proofs/"
-            continue
-        text = re.sub(r"(^|\s)--.*", "", read(found[0]))
+        places = [f"crates/{crate}/{below}/{file}.antt" for below in ("specs", "proofs")]
+        text = "\n".join(re.sub(r"(^|\s)--.*", "", read(ROOT / place)) for place in places)
         for name in ticked(names):
             if not re.search(r"^\s*(?:(?:pattern|unfoldable|abbrev|pub|record|data) )*%s (?:\(.*\) )?:" % re.escape(name), text, re.M):
-                yield f"{found[0].relative_to(ROOT)} does not define {name}"
+                yield f"neither {places[0]} nor {places[1]} defines {name}"
 
 
 def edits_missing(cell):

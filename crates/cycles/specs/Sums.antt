@@ -1,5 +1,5 @@
--- The list of loop sums, entered one node's row at a time. `search (needs, enterings)` answers the pass over the edges,
--- `search (needs, summings)` the loop over the nodes. Assumes nothing.
+-- The list of loop sums, entered one node's row at a time. `search (rules, enterings)` answers the pass over the edges,
+-- `search (rules, summings)` the loop over the nodes. Assumes nothing.
 use Rattle.std.specs.Prelude.{ℕ, zero, suc, ◌+◌, ◌<◌, ◌≤◌, ◌≡◌, refl, List, eqb, ltb, set, replicate}
 use Rattle.std.proofs.Math.Decide.{ℕ_discrete, dec_lt}
 use Rattle.std.proofs.Common.{arith, ◌∙◌, ext_get_or}

@@ -1,5 +1,5 @@
 -- Is a test true somewhere: what such a loop computes, its invariant, and what its answer tells.
--- `search (needs, anys)` answers such a loop's needs. Assumes nothing.
+-- `search (rules, anys)` answers such a loop's goals. Assumes nothing.
 use Rattle.std.specs.Prelude.{ℕ, zero, suc, ◌+◌, ◌-◌, ◌<◌, ◌≤◌, ◌≡◌, refl, Bool, true, false}
 use Rattle.std.proofs.Common.{eq-or-lt_of_le, add-one, arith, sym, ap, ◌∙◌, ⊎_elim}
 use Rattle.loops.specs.Choice.{if, true_false, not_true}

@@ -1,5 +1,5 @@
 -- A search for the lowest place at which a test is true: what it computes, its invariant, and what a finished search tells.
--- `search (needs, firsts)` answers such a loop's needs. Assumes nothing.
+-- `search (rules, firsts)` answers such a loop's goals. Assumes nothing.
 use Rattle.std.specs.Prelude.{ℕ, zero, suc, ◌+◌, ◌-◌, ◌<◌, ◌≤◌, ◌≡◌, refl, Bool, true, false}
 use Rattle.std.proofs.Common.{eq-or-lt_of_le, add-one, arith, sym, ap, ◌∙◌, ⊎_elim}
 use Rattle.std.proofs.Math.Decide.{dec_lt}

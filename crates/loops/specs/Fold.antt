@@ -1,5 +1,5 @@
 -- Any other loop over 0, 1, .. n - 1: what it makes of a value turn by turn.
--- `search (needs, folds)` answers such a loop's needs. Assumes nothing.
+-- `search (rules, folds)` answers such a loop's goals. Assumes nothing.
 use Rattle.std.specs.Prelude.{ℕ, zero, suc, ◌+◌, ◌<◌, ◌≤◌, ◌≡◌, refl}
 use Rattle.std.proofs.Common.{add-one, arith, ◌∙◌}
 unfoldable pub use Rattle.loops.specs.Values.{fold}

@@ -1,5 +1,5 @@
 -- A row of a longer list that is updated in place, entry by entry: the list with f 0, f 1, .. from `base` on.
--- `search (needs, rows)` answers such a loop's needs. Assumes nothing.
+-- `search (rules, rows)` answers such a loop's goals. Assumes nothing.
 use Rattle.std.specs.Prelude.{ℕ, zero, suc, ◌+◌, ◌<◌, ◌≤◌, ◌≡◌, refl, List, length, set}
 use Rattle.std.proofs.Common.{add-one, arith, sym, ap, ◌∙◌, length-set, get_or-set_same, get_or-set_other}
 use Rattle.std.proofs.Math.Decide.{ℕ_discrete}

@@ -1,5 +1,5 @@
 -- A sum: what such a loop computes, its invariant, and the laws of a finished sum.
--- `search (needs, sums)` answers such a loop's needs. Assumes nothing.
+-- `search (rules, sums)` answers such a loop's goals. Assumes nothing.
 use Rattle.std.specs.Prelude.{ℕ, zero, suc, ◌+◌, ◌*◌, ◌<◌, ◌≤◌, ◌≡◌, refl}
 use Rattle.std.proofs.Common.{suc-mul, add-le-add, add-one, arith, ap, ◌∙◌}
 use Rattle.std.proofs.Math.Decide.{ℕ_discrete}

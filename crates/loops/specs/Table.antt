@@ -1,5 +1,5 @@
 -- A table that is filled from the front, with 0 past what was filled.
--- `search (needs, fills)` answers such a loop's needs. Assumes nothing.
+-- `search (rules, fills)` answers such a loop's goals. Assumes nothing.
 use Rattle.std.specs.Prelude.{ℕ, zero, suc, ◌+◌, ◌-◌, ◌<◌, ◌≤◌, ◌≡◌, refl, List, [], ◌∷◌, ◌++◌, length, set, replicate}
 use Rattle.std.proofs.Common.{eq-or-lt_of_le, le_of_suc-le-suc, add-one, arith, sym, ap, ◌∙◌, ⊎_elim, length-append, get_or-append-add}
 use Rattle.std.proofs.lemmas.List.{length-replicate, set_at, get_or_at}

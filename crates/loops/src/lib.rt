@@ -1,2 +1,2 @@
 #![tactic(auto)]
-// No code: what the few kinds of loop compute, and the laws by which a search answers a loop's needs.
+// No code: what the few kinds of loop compute, and the laws by which a search answers a loop's goals.

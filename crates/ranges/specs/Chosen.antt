@@ -1,4 +1,4 @@
--- A test chosen by another, as a number. `search (needs, ones)` answers it. Assumes nothing.
+-- A test chosen by another, as a number. `search (rules, ones)` answers it. Assumes nothing.
 use Rattle.std.specs.Prelude.{◌≡◌, Bool, true, false, ℕ}
 use Rattle.loops.specs.Choice.{if, one_if}
 

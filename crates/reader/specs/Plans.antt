@@ -59,7 +59,7 @@ P_by_twos modulus = like_P modulus 0 2 0 2 edges_of_P
 unfoldable pub P_with_0_0 : List ℕ
 P_with_0_0 = like_P 4 0 1 0 1 (0 ∷ 0 ∷ 0 ∷ edges_of_P)
 
--- "Ring: three one_node processes, edges 0-0, 0-1, 1-1, 1-2, 2-0, 2-2 with one token each, increments 1, own counters", N 3 or 4
+-- "Ring: three one-node processes, edges 0-0, 0-1, 1-1, 1-2, 2-0, 2-2 with one token each, increments 1, own counters", N 3 or 4
 unfoldable pub ring : ℕ → List ℕ
 ring modulus =
     image_of 3 modulus (1 ∷ 1 ∷ 1 ∷ []) (0 ∷ 1 ∷ 2 ∷ []) (0 ∷ 1 ∷ 1 ∷ 1 ∷ 2 ∷ 1 ∷ [])
