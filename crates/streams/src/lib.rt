@@ -8,6 +8,9 @@ ghost use Rattle.std.specs.Io.KnownBytes.{Appends, Keeps, ReadConsumes, WriteApp
 ghost use Rattle.std.specs.IoError.{error_kind};
 ghost use Rattle.streams.specs.Held.{AppendsPart, Held, Reads, Takes, answered, number};
 
+#[cfg(test)]
+mod tests;
+
 use arrayvec::ArrayString;
 use std::fmt::Write as _;
 use std::io::{ErrorKind, Read, Write};
