@@ -1,16 +1,12 @@
--- Plan P: the emptiest route back of edge 1-2 goes over the process edges 2-3 and 0-1 and the edge 3-0. By computation.
+-- Plan P and its synchronising edges, by computation.
 -- Assumes nothing.
-use Rattle.std.specs.Prelude.{◌≡◌, refl, true, false, [], ◌∷◌, ℕ, ◌≤◌}
-use Rattle.std.proofs.Common.{arith}
+use Rattle.std.specs.Prelude.{◌≡◌, refl, true, false, [], ◌∷◌}
 use Rattle.loops.specs.Choice.{if}
 use Rattle.loops.specs.First.{first, first_of}
 use Rattle.loops.specs.Sum.{sum}
-use Rattle.net.specs.Graph.{Route, tokens_on}
-use Rattle.net.specs.Tables.{graph_of_tables}
 use Rattle.plan.specs.declared.Plan.{Plan}
-use Rattle.plan.specs.Value.{graph_of, base}
+use Rattle.plan.specs.Value.{base}
 use Rattle.plan.specs.Tests.{stands_at, order_position, ends_past, process_at, home_of, home, synchronises}
-use Rattle.judge.specs.Conditions.{RouteBack}
 
 -- 01: "edges 0-1:0, 1-0:1, 1-2:0, 2-3:0, 3-0:3, 3-2:1"
 unfoldable pub P : Plan
@@ -35,8 +31,3 @@ P =
 pub synchronising_of_P : (synchronises P 0 ≡ false) × (synchronises P 2 ≡ true) × (synchronises P 3 ≡ false) × (synchronises P 4 ≡ true)
 unfolding P if first first_of sum base stands_at order_position ends_past process_at home_of home synchronises
 synchronising_of_P = (refl, refl, refl, refl)
-
--- "chords and process edges included": the route back over edges 3, 4 and 0 counts, and holds 3 tokens
-pub back_over_all_edges : (d : ℕ) → RouteBack P 2 d → d ≤ 3
-unfolding P RouteBack graph_of graph_of_tables Route tokens_on if first first_of sum base stands_at order_position ends_past process_at home_of home synchronises
-back_over_all_edges d back = omega (arith, back.least (3 ∷ 4 ∷ 0 ∷ []) (omega arith, refl, (omega arith, refl, (omega arith, refl, refl))))

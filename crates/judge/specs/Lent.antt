@@ -1,6 +1,6 @@
 -- What the rows that tests 10 to 16 are lent say of a plan whose tests 3 and 5 to 8 pass; and what is asked of lent tables.
 -- Assumes nothing.
-use Rattle.std.specs.Prelude.{ℕ, ◌+◌, ◌≤◌, ◌<◌, ◌≡◌, refl, List, Bool, ◌↔◌, ◌≢◌, eqb}
+use Rattle.std.specs.Prelude.{ℕ, ◌≤◌, ◌<◌, ◌≡◌, refl, List, Bool, ◌↔◌, ◌≢◌, eqb}
 use Rattle.std.proofs.Math.Decide.{dec_lt}
 use native.Mathlib.Omega.{arith}
 use Rattle.std.proofs.Math.Path.{sym, ap}
@@ -12,7 +12,7 @@ use Rattle.loops.specs.First.{first, first_none}
 use Rattle.loops.specs.Sum.{sum, sum_le_below}
 use Rattle.loops.specs.Table.{padded, padded_at, padded_past}
 use Rattle.plan.specs.declared.Plan.{Plan}
-use Rattle.plan.specs.Value.{share, counter_sum, Synchronising}
+use Rattle.plan.specs.Value.{share, Synchronising}
 use Rattle.plan.specs.Tests.{home, different, synchronises}
 use Rattle.plan.specs.Tables.{Tabled}
 use Rattle.plan.specs.Formed.{past}
@@ -20,7 +20,6 @@ use Rattle.plan.specs.Tests.{home_table}
 use Rattle.plan.specs.Seating.{home_table_at, synchronises_exactly}
 use Rattle.seats.specs.Crossing.{crossing_table}
 use Rattle.seats.specs.Laws.{crossing_at}
-use Rattle.routes.specs.Rows.{no_route, emptiest_row}
 use Rattle.routes.specs.Relaxing.{EndsInRow}
 use Rattle.routes.specs.Settling.{row_most}
 use Rattle.rounds.specs.Lent.{bad_sum_in}

@@ -11,7 +11,8 @@ use Rattle.plan.specs.Passed.{test_3, counts_test}
 use Rattle.plan.specs.Tests.{refuse_if}
 use Rattle.judge.specs.Faults.{plan_order}
 use Rattle.judge.specs.Sound.{Upheld}
-use Rattle.judge.specs.Decided.{Decided, decided_from_5, clean_exactly, each_number}
+use Rattle.judge.specs.Decided.{Decided, each_number}
+use Rattle.judge.proofs.Decided.{decided_from_5, clean_exactly}
 use Rattle.numerals.specs.LittleEndian.{two_bytes}
 use Rattle.image.specs.Image.{tables_of, plan_of}
 use Rattle.image.specs.Header.{good_format, good_offsets}

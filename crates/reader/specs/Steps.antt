@@ -13,7 +13,8 @@ use Rattle.judge.specs.declared.Answer.{Answer}
 use Rattle.judge.specs.declared.Answer.TheVariants.{Accepted, Refused}
 use Rattle.plan.specs.Tests.{refuse_if}
 use Rattle.judge.specs.Tests.{from_5}
-use Rattle.judge.specs.Decided.{from_5_numbers, without_q}
+use Rattle.judge.specs.Decided.{without_q}
+use Rattle.judge.proofs.Decided.{from_5_numbers}
 use Rattle.reader.specs.declared.ReadPlan.{ReadPlan}
 use Rattle.numerals.specs.LittleEndian.{two_bytes, four_bytes}
 use Rattle.image.specs.Image.{tables_of, plan_of}

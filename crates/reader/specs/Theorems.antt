@@ -12,7 +12,7 @@ use Rattle.judge.specs.Conditions.{LeastModulus}
 use Rattle.judge.specs.Sound.{Upheld, Sound}
 use Rattle.judge.specs.Tests.{least_modulus}
 use Rattle.judge.specs.Decided.{accepted, not_accepted}
-use Rattle.judge.specs.Theorems as judge
+use Rattle.judge.proofs.Theorems as judge
 use Rattle.reader.specs.declared.ReadPlan.{ReadPlan}
 use Rattle.image.specs.Image.{plan_of}
 use Rattle.reader.specs.Faults.{image_order}

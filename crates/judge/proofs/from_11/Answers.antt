@@ -1,11 +1,6 @@
-use Rattle.std.proofs.Common.{rules, ◌≡◌, not, ◌%◌, ◌<◌, ◌≤◌, eqb, ℕ, ◌+◌, ◌-◌, ◌*◌, length, ◌/◌, Bool, true, false, nat_lt, List, [], ◌∷◌, ◌++◌, slice_index_or, slice_set, bit_and, bit_or, Fits, w8, w32, w64, Bor, MutBor, arith}
-use Rattle.plan.specs.Value.{plan_with}
-use Rattle.plan.specs.Faults.{CountsFit}
-use Rattle.plan.specs.Tables.{Tabled}
-use Rattle.cycles.specs.Lent.{Small}
-use Rattle.judge.specs.Tests.{counter_0, sums_of, from_15_in, from_13_in, from_11_in, from_9, from_5, judged}
-use Rattle.judge.specs.Lent.{EdgesOk, CountersOk, sum_most, sum_some}
-use Rattle.std.proofs.lemmas.Grind.{common_steps}
+use Rattle.std.proofs.Common.{◌≡◌, ℕ, List, arith}
+use Rattle.judge.specs.Tests.{from_11_in}
+use Rattle.judge.specs.Lent.{sum_most, sum_some}
 use mathlib.Core.Path.{ap, ◌∙◌}
 use Rattle.plan.specs.Refusing.{refused_here, passed_here}
 use Rattle.judge.specs.declared.Answer.{Answer}
@@ -29,13 +24,12 @@ returns-then-place-counters c =
     (refused_here _ _ _ _ _ _ _ c.refused-then-place-counters.ensures c.first_bad_sum-place.ensures c.if-place-counters.true))
 
 pub from_13-requires : goal.from_13-requires
-from_13-requires c =
-    (
-      c.requires.0,
-      sum_some c.args.counter.now c.args.increment.now c.args.nodes c.args.counters c.requires.1 c.counter_sum-q.ensures
-          (omega (arith, c.first_bad_sum-place.ensures, c.if-place-counters.false)),
-      sum_most c.args.counter.now c.args.increment.now c.args.nodes c.args.counters 0 c.requires.1 c.requires.0.nodes_most c.counter_sum-q.ensures,
-    )
+from_13-requires c = (
+  c.requires.0,
+  sum_some c.args.counter.now c.args.increment.now c.args.nodes c.args.counters c.requires.1 c.counter_sum-q.ensures
+      (omega (arith, c.first_bad_sum-place.ensures, c.if-place-counters.false)),
+  sum_most c.args.counter.now c.args.increment.now c.args.nodes c.args.counters 0 c.requires.1 c.requires.0.nodes_most c.counter_sum-q.ensures,
+)
 
 pub returns : goal.returns
 unfolding from_11_in

@@ -1,11 +1,6 @@
-use Rattle.std.proofs.Common.{rules, ◌≡◌, not, ◌%◌, ◌<◌, ◌≤◌, eqb, ℕ, ◌+◌, ◌-◌, ◌*◌, length, ◌/◌, Bool, true, false, nat_lt, List, [], ◌∷◌, ◌++◌, slice_index_or, slice_set, bit_and, bit_or, Fits, w8, w32, w64, Bor, MutBor, arith}
-use Rattle.plan.specs.Value.{plan_with}
-use Rattle.plan.specs.Faults.{CountsFit}
-use Rattle.plan.specs.Tables.{Tabled}
-use Rattle.cycles.specs.Lent.{Small}
-use Rattle.judge.specs.Tests.{counter_0, sums_of, from_15_in, from_13_in, from_11_in, from_9, from_5, judged}
-use Rattle.judge.specs.Lent.{EdgesOk, CountersOk, ends_in_row, sums_small}
-use Rattle.std.proofs.lemmas.Grind.{common_steps}
+use Rattle.std.proofs.Common.{◌≡◌, ℕ, List}
+use Rattle.judge.specs.Tests.{from_13_in}
+use Rattle.judge.specs.Lent.{sums_small}
 use mathlib.Core.Path.{ap, ◌∙◌}
 use Rattle.plan.specs.Refusing.{refused_here, passed_here}
 use Rattle.judge.specs.declared.Answer.{Answer}

@@ -1,19 +1,10 @@
-use Rattle.std.proofs.Common.{rules, ◌≡◌, not, ◌%◌, ◌<◌, ◌≤◌, eqb, ℕ, ◌+◌, ◌-◌, ◌*◌, length, ◌/◌, Bool, true, false, nat_lt, List, [], ◌∷◌, ◌++◌, slice_index_or, slice_set, bit_and, bit_or, Fits, w8, w32, w64, Bor, MutBor, arith}
 use Rattle.plan.specs.Value.{plan_with, counter_sum}
-use Rattle.plan.specs.Faults.{CountsFit}
-use Rattle.plan.specs.Tables.{Tabled}
-use Rattle.cycles.specs.Lent.{Small}
-use Rattle.judge.specs.Tests.{counter_0, sums_of, from_15_in, from_13_in, from_11_in, from_9, from_5, judged, bad_counter, sum_table}
-use Rattle.judge.specs.Lent.{EdgesOk, CountersOk, edges_ok, counters_ok}
-use Rattle.std.proofs.lemmas.Grind.{common_steps}
-use mathlib.Core.Path.{refl, ap, ◌∙◌}
+use Rattle.judge.specs.Tests.{from_11_in, from_9, sum_table}
+use mathlib.Core.Path.{ap, ◌∙◌}
 use Rattle.loops.specs.First.{first}
 use Rattle.loops.specs.Table.{padded}
-use Rattle.plan.specs.declared.Plan.{Plan}
 use Rattle.plan.specs.Refusing.{refused_here, passed_here}
-use Rattle.plan.specs.Seating.{order_once}
-use Rattle.seats.specs.Crossing.{crosses, crossing_table}
-use Rattle.seats.specs.Laws.{ends_ok}
+use Rattle.seats.specs.Crossing.{crosses}
 use Rattle.rounds.specs.Lent.{bad_counter_in}
 use Rattle.judge.proofs.from_9.Goals as goal
 

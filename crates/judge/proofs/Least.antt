@@ -19,7 +19,7 @@ use Rattle.seats.specs.Crossing.{crossing_table}
 use Rattle.cycles.specs.Lent.{asks_in, most_asked}
 use Rattle.judge.specs.Tests.{loop_sum, sum_table, least_modulus}
 use Rattle.judge.specs.Lent.{crosses_exactly, sum_at}
-use Rattle.judge.specs.RouteFaults.{loops_known, loop_known}
+use Rattle.judge.proofs.RouteFaults.{loops_known, loop_known}
 
 -- the greatest of 1 and what f is below n
 abbrev greatest : (ℕ → ℕ) → ℕ → ℕ

@@ -1,7 +1,7 @@
 -- Statements: what is proved of the judge, for every plan value (01, "Numbers a plan can be turned down with"; faults 3 and 5 to 16).
 -- Assumes nothing.
 use Rattle.std.specs.Prelude.{◌≡◌, ◌⊎◌, ◌↔◌, ℕ, ◌≤◌}
-use Rattle.std.proofs.Common.{sym, ◌∙◌, subst, inl, inr}
+use Rattle.std.proofs.Common.{sym, ◌∙◌, inl, inr}
 use Rattle.plan.specs.declared.Plan.{Plan}
 use Rattle.plan.specs.Value.{counter_sum, Synchronising}
 use Rattle.plan.specs.Order.{FirstFault}
@@ -15,9 +15,11 @@ use Rattle.judge.specs.Conditions.{LeastModulus}
 use Rattle.judge.specs.Sound.{Upheld, Sound}
 use Rattle.judge.specs.Faults.{plan_order}
 use Rattle.judge.specs.Tests.{least_modulus, judged, AcceptedPlan}
-use Rattle.judge.specs.Exactly.{q_some, conditions_exactly}
-use Rattle.judge.specs.Least as least
-use Rattle.judge.specs.Decided.{accepted, not_accepted, judged_decided, clean_exactly, each_number}
+use Rattle.judge.specs.Exactly.{q_some}
+use Rattle.judge.proofs.Exactly.{conditions_exactly}
+use Rattle.judge.proofs.Least as least
+use Rattle.judge.specs.Decided.{accepted, not_accepted, each_number}
+use Rattle.judge.proofs.Decided.{judged_decided, clean_exactly}
 
 module _ (pl : Plan) where
   -- every plan value is answered: accepted, or refused with 3 or a number from 5 to 16 and a place
