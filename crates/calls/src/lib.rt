@@ -163,8 +163,7 @@ fn answer<'a>(
 pub fn begin(plan: Plan) -> Began
     ensures { result ≡ begin_run plan }
 {
-    let state = fresh_state();
-    if shape::fits(
+    let fits = shape::fits(
         plan.nodes,
         plan.processes,
         plan.edges,
@@ -178,28 +177,22 @@ pub fn begin(plan: Plan) -> Began
         &plan.source,
         &plan.destination,
         &plan.tokens,
-    ) {
-        return Began { number: 0, state };
+    );
+    let number = if fits { 0 } else { 25 };
+    Began {
+        number,
+        state: fresh_state(),
     }
-    Began { number: 25, state }
 }
 
-// A call by its code: a code above 2 is refused with 26, before all else. The state's lists are lent all at once, and the state is made anew from them.
-pub fn step(plan: Plan, state: State, code: u32, process: u32, edge: u32) -> Turned
-    ensures { result ≡ step_call plan state code process edge }
+// A call by its code on a state where it stands: a code above 2 is refused with 26, before all else. The state's lists are lent all at once.
+pub fn step_on(plan: &Plan, state: &mut State, code: u32, process: u32, edge: u32) -> Reply
+    ensures { turned result state.new ≡ step_call plan.now state.old code process edge }
 {
     if 2 < code {
-        return Turned {
-            reply: Reply::Refused { number: 26 },
-            state,
-        };
+        return Reply::Refused { number: 26 };
     }
-    let mut positions = state.positions;
-    let mut opened = state.opened;
-    let mut marks = state.marks;
-    let mut counters = state.counters;
-    let mut turn = state.turn;
-    let reply = answer(
+    answer(
         plan.nodes,
         plan.processes,
         plan.edges,
@@ -213,24 +206,26 @@ pub fn step(plan: Plan, state: State, code: u32, process: u32, edge: u32) -> Tur
         &plan.source,
         &plan.destination,
         &plan.tokens,
-        &mut positions,
-        &mut opened,
-        &mut marks,
-        &mut counters,
-        &mut turn,
+        &mut state.positions,
+        &mut state.opened,
+        &mut state.marks,
+        &mut state.counters,
+        &mut state.turn,
         code,
         process,
         edge,
-    );
+    )
+}
+
+// The same call on a state by value: the reply, and the state that it leaves.
+pub fn step(plan: Plan, state: State, code: u32, process: u32, edge: u32) -> Turned
+    ensures { result ≡ step_call plan state code process edge }
+{
+    let mut after = state;
+    let reply = step_on(&plan, &mut after, code, process, edge);
     Turned {
         reply,
-        state: State {
-            positions,
-            opened,
-            marks,
-            counters,
-            turn,
-        },
+        state: after,
     }
 }
 

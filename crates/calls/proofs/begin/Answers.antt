@@ -1,15 +1,7 @@
-use Rattle.std.proofs.Common.{rules, ◌≡◌, ◌≤◌, ℕ, ◌+◌, ◌-◌, ◌*◌, ◌<◌, length, ◌/◌, ◌%◌, Bool, true, false, nat_eq, nat_lt, List, [], ◌∷◌, ◌++◌, slice_index_or, slice_set, bit_and, bit_or, Fits, w8, w32, w64, Bor, MutBor, arith}
-use Rattle.plan.specs.Value.{plan_with}
-use Rattle.plan.specs.Tests.{plan_fits}
-use Rattle.machine.specs.States.{state_with, fresh}
-use Rattle.machine.specs.Replies.{turned}
-use Rattle.machine.specs.Calls.{both_fit, begin_run, open_call, look_call, fire_call, step_call, reading_call}
-use Rattle.std.proofs.lemmas.Grind.{common_steps}
+use Rattle.std.proofs.Common.{rules}
 use Rattle.machine.specs.Stepping.{begun, begun_not}
+use Rattle.calls.proofs.begin.Goals.{then-fits, else-fits}
 use Rattle.calls.proofs.begin.Goals as goal
 
-pub returns-then-fits : goal.returns-then-fits
-returns-then-fits c = search (rules, begun)
-
 pub returns : goal.returns
-returns c = search (rules, begun_not)
+returns c = elim c.if-fits.branch [ then-fits w ↦ search (rules, begun) | else-fits w ↦ search (rules, begun_not) ]
