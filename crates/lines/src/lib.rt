@@ -6,9 +6,9 @@ ghost use Rattle.lines.specs.Lines.{plan_line, refused_line, refusal_text, said,
 ghost use Rattle.numerals.specs.Decimal.{number_then};
 ghost use Rattle.numerals.specs.Writing.{Put};
 
-use numerals::text::{put_decimal, put_number, put_word};
 use judge::Answer;
 use machine::Reply;
+use numerals::text::{put_decimal, put_number, put_word};
 
 // First line: `plan` Q N least.
 pub fn put_plan_line(out: &mut [u8], q: u32, modulus: u32, least: u32) -> usize
