@@ -1,9 +1,10 @@
 #![tactic(auto)]
 // Reading and writing for programs that never take an error for the end of the input or for success. A call that a signal interrupts, and
 // one that a non-blocking stream answers with "try again", is tried again; one that moves a part of the bytes is continued.
-ghost use Rattle.std.specs.Prelude.{◌≡◌, ◌↔◌, ◌⊎◌, length, IsTrue, OnOk, OnErr};
+ghost use Rattle.std.specs.Prelude.{◌≡◌, ◌↔◌, ◌⊎◌, length, IfOk, IsTrue, OnOk, OnErr};
 ghost use Rattle.std.specs.Bool.{OnTrue, OnFalse};
-ghost use Rattle.std.specs.Io.{ReadsAtMost, WritesAtMost};
+ghost use Rattle.std.specs.Counts.{IsPrefixLen};
+ghost use Rattle.std.specs.Io.{ReadsAtMost};
 ghost use Rattle.std.specs.Io.KnownBytes.{Appends, Keeps, ReadConsumes, WriteAppends};
 ghost use Rattle.std.specs.IoError.{error_kind};
 ghost use Rattle.streams.specs.Held.{AppendsPart, Held, Reads, Takes, answered, number};
@@ -84,7 +85,7 @@ fn read_bytes<I: Read>(clock: &impl Clock, input: &mut I, buffer: &mut [u8]) -> 
 
 // One write that moves bytes or fails.
 fn write_part<O: Write>(clock: &impl Clock, output: &mut O, part: &[u8]) -> io::Result<usize>
-    ensures bound { WritesAtMost result part.now }
+    ensures bound { IfOk result (λ count. IsPrefixLen count part.now) }
     ensures bytes { WriteAppends (O.contents output.old) (O.contents output.new) result part.now }
 {
     for _ in 0..TRIES {

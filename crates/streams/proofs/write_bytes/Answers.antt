@@ -12,4 +12,4 @@ front_grown from count xs = rw (between_to_end xs from (length xs) (le_refl _), 
 pub loop-done-preserved : goal.loop-done-preserved
 loop-done-preserved g c =
     let both = Appends-trans _ _ _ _ _ c.loop-done.invariant.1 c.in_ok-count.ensures.bytes in
-    (omega (arith, c.in_ok-count.ensures.bound), rw (front_grown c.loop-done.done c.in_ok-count.count c.args.text.now) both)
+    (omega (arith, c.in_ok-count.ensures.bound.0), rw (front_grown c.loop-done.done c.in_ok-count.count c.args.text.now) both)
