@@ -1,9 +1,7 @@
-use Rattle.std.proofs.Common.{rules, ◌++◌, ◌+◌, ◌<◌, ◌≤◌, length, ◌≡◌, ℕ, ◌-◌, ◌*◌, ◌/◌, ◌%◌, Bool, true, false, nat_eq, nat_lt, List, [], ◌∷◌, slice_index_or, slice_set, bit_and, bit_or, Fits, w8, w32, w64, Bor, MutBor, arith}
-use Rattle.lines.specs.Words.{newline}
-use Rattle.lines.specs.Lines.{plan_line, refused_line, refusal_text, said, line}
-use Rattle.numerals.specs.Decimal.{number_then, few_digits}
-use Rattle.numerals.specs.Writing.{Put, put_then}
-use Rattle.std.proofs.lemmas.Grind.{common_steps}
+use Rattle.std.proofs.Common.{rules, arith}
+use Rattle.lines.specs.Lines.{line}
+use Rattle.numerals.specs.Decimal.{few_digits}
+use Rattle.numerals.specs.Writing.{put_then}
 use Rattle.lines.proofs.put_line.Goals as goal
 
 pub returns : goal.returns

@@ -1,9 +1,6 @@
-use Rattle.std.proofs.Common.{rules, ◌++◌, ◌+◌, ◌<◌, ◌≤◌, length, ◌≡◌, ℕ, ◌-◌, ◌*◌, ◌/◌, ◌%◌, Bool, true, false, nat_eq, nat_lt, List, [], ◌∷◌, slice_index_or, slice_set, bit_and, bit_or, Fits, w8, w32, w64, Bor, MutBor, arith}
-use Rattle.lines.specs.Words.{newline}
-use Rattle.lines.specs.Lines.{plan_line, refused_line, refusal_text, said, line}
-use Rattle.numerals.specs.Decimal.{number_then}
-use Rattle.numerals.specs.Writing.{Put, put_none, put_like}
-use Rattle.std.proofs.lemmas.Grind.{common_steps}
+use Rattle.std.proofs.Common.{arith}
+use Rattle.lines.specs.Lines.{refusal_text}
+use Rattle.numerals.specs.Writing.{put_none, put_like}
 use Rattle.lines.proofs.put_refusal.Goals as goal
 
 pub returns-in_default : goal.returns-in_default

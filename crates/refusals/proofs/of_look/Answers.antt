@@ -1,6 +1,5 @@
-use Rattle.std.proofs.Common.{rules, ◌≡◌, ◌<◌, ◌≤◌, ℕ, ◌+◌, ◌-◌, ◌*◌, length, ◌/◌, ◌%◌, Bool, true, false, nat_eq, nat_lt, List, [], ◌∷◌, ◌++◌, slice_index_or, slice_set, bit_and, bit_or, Fits, w8, w32, w64, Bor, MutBor, arith}
-use Rattle.refusals.specs.Numbers.{marked_in, open_number, look_number, fire_number, call_number}
-use Rattle.std.proofs.lemmas.Grind.{common_steps}
+use Rattle.std.proofs.Common.{rules}
+use Rattle.refusals.specs.Numbers.{look_number}
 use Rattle.loops.specs.Choice.{ifs, flags}
 use Rattle.refusals.specs.Limits.{limits}
 use Rattle.refusals.proofs.of_look.Goals as goal

@@ -1,13 +1,6 @@
-use Rattle.std.proofs.Common.{rules, ◌≡◌, ◌+◌, ◌<◌, ◌≤◌, length, ℕ, ◌-◌, ◌*◌, ◌/◌, ◌%◌, Bool, true, false, nat_eq, nat_lt, List, [], ◌∷◌, ◌++◌, slice_index_or, slice_set, bit_and, bit_or, Fits, w8, w32, w64, Bor, MutBor, arith}
-use Rattle.plan.specs.Value.{plan_with}
-use Rattle.plan.specs.Faults.{InShape}
-use Rattle.numerals.specs.LittleEndian.{four_bytes}
-use Rattle.machine.specs.States.{fresh, state_with}
-use Rattle.transcript.specs.Text.{calls_text, image_length, run_text, text_of}
-use Rattle.numerals.specs.Writing.{Put}
-use Rattle.transcript.specs.Running.{cut_if, Running, running_begin, running_more, running_over}
-use Rattle.transcript.specs.Printing.{Answers}
-use Rattle.std.proofs.lemmas.Grind.{common_steps}
+use Rattle.std.proofs.Common.{rules, arith}
+use Rattle.machine.specs.States.{fresh}
+use Rattle.transcript.specs.Running.{running_begin, running_more, running_over}
 use mathlib.Core.Path.{◌∙◌}
 use Rattle.transcript.proofs.put_calls.Goals as goal
 

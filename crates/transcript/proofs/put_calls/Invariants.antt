@@ -1,14 +1,7 @@
-use Rattle.std.proofs.Common.{length, ◌+◌, ◌-◌, ◌≡◌, ◌<◌, ◌≤◌, ℕ, ◌*◌}
+use Rattle.std.proofs.Common.{length, ◌-◌, ◌≡◌}
 use Rattle.plan.specs.Value.{plan_with}
-use Rattle.plan.specs.Faults.{InShape}
-use Rattle.numerals.specs.LittleEndian.{four_bytes}
-use Rattle.machine.specs.States.{fresh, state_with}
-use Rattle.transcript.specs.Text.{calls_text, image_length, run_text, text_of}
-use Rattle.numerals.specs.Writing.{Put}
-use Rattle.transcript.specs.Running.{cut_if, Running, running_begin, running_more, running_over}
-use Rattle.transcript.specs.Printing.{Answers}
-use mathlib.Core.Path.{◌∙◌}
-use native.Mathlib.Omega.{arith}
+use Rattle.machine.specs.States.{state_with}
+use Rattle.transcript.specs.Running.{Running}
 use Rattle.transcript.proofs.put_calls.Given as goal
 
 abbrev pub invariant-loop-i : goal.invariant-loop-i

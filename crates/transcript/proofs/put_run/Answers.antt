@@ -1,15 +1,5 @@
-use Rattle.std.proofs.Common.{rules, ◌≡◌, ◌+◌, ◌<◌, ◌≤◌, length, ℕ, ◌-◌, ◌*◌, ◌/◌, ◌%◌, Bool, true, false, nat_eq, nat_lt, List, [], ◌∷◌, ◌++◌, slice_index_or, slice_set, bit_and, bit_or, Fits, w8, w32, w64, Bor, MutBor, arith}
-use Rattle.plan.specs.Value.{plan_with}
-use Rattle.plan.specs.Faults.{InShape}
-use Rattle.numerals.specs.LittleEndian.{four_bytes}
-use Rattle.machine.specs.States.{fresh}
-use Rattle.transcript.specs.Text.{calls_text, image_length, run_text, text_of}
-use Rattle.numerals.specs.Writing.{Put}
-use Rattle.transcript.specs.Running.{cut_if}
-use Rattle.transcript.specs.Printing.{Answers, behind_few, accepted_shape, run_accepted, run_refused}
-use Rattle.std.proofs.lemmas.Grind.{common_steps}
-use mathlib.Core.Path.{sym}
-use lib.Seq.{length-take-le}
+use Rattle.std.proofs.Common.{arith}
+use Rattle.transcript.specs.Printing.{behind_few, accepted_shape, run_accepted, run_refused}
 use Rattle.transcript.proofs.put_run.Goals as goal
 
 pub returns-in_default : goal.returns-in_default
