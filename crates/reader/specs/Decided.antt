@@ -1,6 +1,6 @@
 -- The reader's answer says which fault is the first, or that there is none; there is none exactly where the layout, the processes and C0 to C4 hold.
 -- Assumes nothing.
-use Rattle.std.specs.Prelude.{◌≡◌, refl, List, ◌↔◌, ℕ, ◌≤◌, ltb, length}
+use Rattle.std.specs.Prelude.{refl, List, ◌↔◌, ℕ, ◌≤◌, ltb, length}
 use Rattle.std.proofs.Math.Logic.{inl, inr, ⊎_elim}
 use native.Mathlib.Omega.{arith}
 use Rattle.std.proofs.Math.Decide.{ℕ_discrete, dec_lt}

@@ -29,6 +29,10 @@ unfoldable pub filled : Answer → Plan → Plan
 filled (Accepted q modulus least) pl = with_q pl q
 filled (Refused number place) pl = no_plan
 
+-- an answer and what stands beside it
+abbrev pub reading : Answer → Plan → ReadPlan
+reading a pl = record { answer = a; plan = pl }
+
 -- an answer with the plan beside it
 unfoldable pub with_plan : Answer → Plan → ReadPlan
 with_plan a pl = record { answer = a; plan = filled a pl }
@@ -116,3 +120,8 @@ module _ (s : List ℕ) where
 pub counts_are : {a b c d e a' b' c' d' e' : ℕ} {r t : Bool} → r ≡ bad_counts a b c d e → a ≡ a' → b ≡ b' → c ≡ c' → d ≡ d' → e ≡ e' → r ≡ t
     → bad_counts a' b' c' d' e' ≡ t
 counts_are x p q u v w y = sym (x ∙ rw (p, q, u, v, w)) ∙ y
+
+-- a refusal at place 0 beside a plan with nothing in it
+pub refused_beside : {a : Answer} {pl : Plan} {r : ReadPlan} (number : ℕ) → a ≡ Refused number 0 → pl ≡ no_plan → refusal_of number ≡ r → reading a pl ≡ r
+unfolding refusal_of
+refused_beside {pl} number e p q = ap (λ a. reading a pl) e ∙ ap (reading (Refused number 0)) p ∙ q

@@ -3,7 +3,8 @@
 ghost use Rattle.std.specs.Prelude.{◌≡◌, true, ◌≤◌, length};
 ghost use Rattle.image.specs.Header.{good_format};
 ghost use Rattle.reader.specs.Tests.{no_plan, read_of};
-ghost use Rattle.reader.specs.Steps.{with_plan, refusal_of};
+ghost use Rattle.reader.specs.Steps.{reading, filled};
+ghost use Rattle.judge.specs.declared.Answer.TheVariants.{Refused};
 
 use judge::Answer;
 use plan::Plan;
@@ -36,33 +37,27 @@ fn empty_plan() -> Plan
     }
 }
 
-// A refusal at place 0, with nothing of the plan.
-fn refusal(number: u32) -> ReadPlan
-    ensures { result ≡ refusal_of number }
+// A refusal at place 0.
+fn refusal(number: u32) -> Answer
+    ensures { result ≡ Refused number 0 }
 {
-    ReadPlan {
-        answer: Answer::Refused { number, place: 0 },
-        plan: empty_plan(),
-    }
+    Answer::Refused { number, place: 0 }
 }
 
 // The plan beside the answer that accepts it, with that answer's Q; nothing of it beside a refusal.
-fn beside(answer: Answer, plan: Plan) -> ReadPlan
-    ensures { result ≡ with_plan answer plan }
+fn beside(answer: Answer, plan: &mut Plan)
+    ensures { plan.new ≡ filled answer plan.old }
 {
     match answer {
-        Answer::Accepted { q, modulus, least } => {
-            let mut filled = plan;
-            filled.q = q;
-            ReadPlan {
-                answer: Answer::Accepted { q, modulus, least },
-                plan: filled,
-            }
-        }
-        Answer::Refused { number, place } => ReadPlan {
-            answer: Answer::Refused { number, place },
-            plan: empty_plan(),
-        },
+        Answer::Accepted {
+            q,
+            modulus: _,
+            least: _,
+        } => plan.q = q,
+        Answer::Refused {
+            number: _,
+            place: _,
+        } => *plan = empty_plan(),
     }
 }
 
@@ -70,19 +65,24 @@ fn beside(answer: Answer, plan: Plan) -> ReadPlan
 pub fn read(image: &[u8]) -> ReadPlan
     ensures { result ≡ read_of image.now }
 {
+    let mut plan = empty_plan();
     if image.len() < 36 {
-        return refusal(1);
+        let answer = refusal(1);
+        return ReadPlan { answer, plan };
     }
     if image::format_fits(image) {
-        return read_counted(image);
+        let answer = read_counted(image, &mut plan);
+        return ReadPlan { answer, plan };
     }
-    refusal(2)
+    let answer = refusal(2);
+    ReadPlan { answer, plan }
 }
 
-// Test 3, and what comes after it.
-fn read_counted(image: &[u8]) -> ReadPlan
-    requires { (36 ≤ length image.now) × (good_format image.now ≡ true) }
-    ensures { result ≡ read_of image.now }
+// Test 3, and what comes after it. The plan, empty before, is filled in where it is accepted.
+fn read_counted(image: &[u8], plan: &mut Plan) -> Answer
+    requires tested { (36 ≤ length image.now) × (good_format image.now ≡ true) }
+    requires empty { plan.old ≡ no_plan }
+    ensures { reading result plan.new ≡ read_of image.now }
 {
     let counts = entries::counts_bad(
         numerals::pair_at(image, 2),
@@ -95,7 +95,7 @@ fn read_counted(image: &[u8]) -> ReadPlan
         return refusal(3);
     }
     if image::offsets_fit(image) {
-        let plan = image::plan_from(image);
+        *plan = image::plan_from(image);
         let answer = judge::from_5(
             plan.nodes as usize,
             plan.processes as usize,
@@ -110,7 +110,8 @@ fn read_counted(image: &[u8]) -> ReadPlan
             &plan.destination,
             &plan.tokens,
         );
-        return beside(answer, plan);
+        beside(answer, plan);
+        return answer;
     }
     refusal(4)
 }

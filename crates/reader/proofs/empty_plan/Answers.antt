@@ -1,8 +1,4 @@
-use Rattle.std.proofs.Common.{rules, ◌≡◌, true, ◌≤◌, length, ℕ, ◌+◌, ◌-◌, ◌*◌, ◌<◌, ◌/◌, ◌%◌, Bool, false, nat_eq, nat_lt, List, [], ◌∷◌, ◌++◌, slice_index_or, slice_set, bit_and, bit_or, Fits, w8, w32, w64, Bor, MutBor, arith}
-use Rattle.image.specs.Header.{good_format}
-use Rattle.reader.specs.Tests.{no_plan, read_of}
-use Rattle.reader.specs.Steps.{with_plan, refusal_of}
-use Rattle.std.proofs.lemmas.Grind.{common_steps}
+use Rattle.reader.specs.Tests.{no_plan}
 use mathlib.Core.Path.{refl}
 use Rattle.reader.proofs.empty_plan.Goals as goal
 
