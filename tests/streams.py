@@ -292,7 +292,8 @@ def try_unwritable(cases, program):
     cases.expect(program, "/dev/full", into(os.open("/dev/full", os.O_WRONLY)), b"", full)
     cases.expect(program, "/dev/full, a large text", into(os.open("/dev/full", os.O_WRONLY), program.large), b"", full)
     cases.expect(program, "output for reading only", into(os.open("/dev/null", os.O_RDONLY)), b"", bad)
-    cases.expect(program, "a reader that is gone", into(gone_reader()), b"", b"", -signal.SIGPIPE)
+    # the start of a Rattle program ignores SIGPIPE, whatever its caller chose
+    cases.expect(program, "a reader that is gone", into(gone_reader()), b"", gone)
     cases.expect(program, "the same without the signal", into(gone_reader(), prepare=no_signal), b"", gone)
     with tempfile.TemporaryFile() as file:
         ended = into(os.dup(file.fileno()), program.large, prepare=few_bytes)
