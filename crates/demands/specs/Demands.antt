@@ -26,6 +26,7 @@ use Rattle.machine.specs.Runs.{Call, turn, IsRefused, Chain}
 use Rattle.machine.specs.Theorems as machine
 use Rattle.follow.specs.Bounds.{AllInBounds, AllFit32}
 use Rattle.follow.specs.Theorems as follow
+use Rattle.follow.proofs.Theorems as runs
 use Rattle.follow.specs.Meaning.{state_after, answers_after, fired_after, tokens_now, LookExact, FireMeans, Stands}
 use Rattle.follow.specs.DriveCalls.{YetToSee, Driven, Reached}
 use Rattle.demands.specs.Functions as functions
@@ -87,7 +88,7 @@ module _ (s : List ℕ) (a : IsAccepted s) where
     -- "a look at an edge still to be seen finds it exactly when Lamport's marked graph, fired in the same order, has a token there"
     pub look_exact : (c : Call) → c.code ≡ 1 → c.process < plan.processes → c.edge < 512 → mark (state_after plan cs) c.process c.edge ≡ 1
         → LookExact (tokens_now plan cs c.edge) c.process (turn plan (state_after plan cs) c)
-    look_exact = follow.look_exact plan (reader.accepted_sound s a) cs
+    look_exact = runs.look_exact plan (reader.accepted_sound s a) cs
 
     -- "A fire succeeds exactly when the process is open with no edge left to see."
     pub fire_exact : (c : Call) → c.code ≡ 2
@@ -115,12 +116,12 @@ module _ (s : List ℕ) (a : IsAccepted s) where
     pub progress : (p : ℕ) × (p < plan.processes) × Fireable (graph_of plan) (tokens_now plan cs) (next_node plan (state_after plan cs) p)
         × ((es : List ℕ) × YetToSee plan (state_after plan cs) p es
         × Driven plan (state_after plan cs) p (next_node plan (state_after plan cs) p) es)
-    progress = follow.progress plan (reader.accepted_sound s a) cs
+    progress = runs.progress plan (reader.accepted_sound s a) cs
 
     -- and so in whichever order it looks at them
     pub any_order : (p : ℕ) → p < plan.processes → Fireable (graph_of plan) (tokens_now plan cs) (next_node plan (state_after plan cs) p)
         → (es : List ℕ) → YetToSee plan (state_after plan cs) p es → Driven plan (state_after plan cs) p (next_node plan (state_after plan cs) p) es
-    any_order = follow.driven plan (reader.accepted_sound s a) cs
+    any_order = runs.driven plan (reader.accepted_sound s a) cs
 
   -- the emptiest route is there wherever a route is, and is one number
   pub emptiest_there : (m n : ℕ) → m < plan.nodes → Linked (graph_of plan) m n → (d : ℕ) × Emptiest (graph_of plan) (graph_of plan).tokens m n d
@@ -133,12 +134,12 @@ module _ (s : List ℕ) (a : IsAccepted s) where
   -- "and some sequence reaches that limit": of calls whose processes and edges are the plan's
   pub lead_reached : (m n d : ℕ) → n < plan.nodes → Emptiest (graph_of plan) (graph_of plan).tokens m n d
       → (cs : List Call) × AllInBounds plan cs × (firings n (fired_after plan cs) ≡ firings m (fired_after plan cs) + d)
-  lead_reached = follow.lead_reached plan (reader.accepted_sound s a)
+  lead_reached = runs.lead_reached plan (reader.accepted_sound s a)
 
   -- 01: "between them demand 3 sets no lead": where no route leads from m to n, n gets ahead as far as one likes
   pub unlinked_free : (m n : ℕ) → n < plan.nodes → (Linked (graph_of plan) m n → ⊥) → (k : ℕ)
       → (cs : List Call) × AllInBounds plan cs × (firings n (fired_after plan cs) ≡ k) × (firings m (fired_after plan cs) ≡ 0)
-  unlinked_free = follow.unlinked_free plan (reader.accepted_sound s a)
+  unlinked_free = runs.unlinked_free plan (reader.accepted_sound s a)
 
   -- such calls are calls that C can make: their numbers fit 32 bits
   pub bounds_fit : (cs : List Call) → AllInBounds plan cs → AllFit32 cs
@@ -146,7 +147,7 @@ module _ (s : List ℕ) (a : IsAccepted s) where
 
   -- the machine loses no behaviour: every legal firing order is the firings of a list of such calls, none refused and none waiting
   pub reaches : (t : List ℕ) → Legal (graph_of plan) (graph_of plan).tokens t → Reached plan fresh t
-  reaches = follow.reaches plan (reader.accepted_sound s a)
+  reaches = runs.reaches plan (reader.accepted_sound s a)
 
   -- ---- the functions: whatever `read` and `begin` give, and any chain of states and answers in which each step meets what `step` ensures,
   -- is the run of its calls, of which all of the above speaks

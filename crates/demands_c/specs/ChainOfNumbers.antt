@@ -24,13 +24,15 @@ use Rattle.machine.specs.OpenExact.{OpenExact, open_is_exact}
 use Rattle.machine.specs.Theorems as machine
 use Rattle.follow.specs.Bounds.{AllInBounds, AllFit32}
 use Rattle.follow.specs.Theorems as follow
+use Rattle.follow.proofs.Theorems as runs
 use Rattle.follow.specs.Meaning.{tokens_after, LookExact, FireMeans}
 use Rattle.follow.specs.StandsFor.{Follows}
 use Rattle.follow.specs.Follows.{reached_follows}
-use Rattle.follow.specs.LookExact.{look_is_exact}
+use Rattle.follow.proofs.LookExact.{look_is_exact}
 use Rattle.follow.specs.FireExact.{fire_fires, fire_exactly}
 use Rattle.follow.specs.DriveCalls.{drive, YetToSee, Goes, AllGo}
-use Rattle.follow.specs.Driven.{driven, yet_to_see, some_process}
+use Rattle.follow.specs.Driven.{some_process}
+use Rattle.follow.proofs.Driven.{driven, yet_to_see}
 use Rattle.tamsklor.specs.declared.PlanRead.{PlanRead}
 use Rattle.tamsklor.specs.declared.Verdict.{Verdict}
 use Rattle.tamsklor.specs.declared.Begun.{Begun}
@@ -237,21 +239,21 @@ module _ (pl : Plan) (sound : Sound pl) where
         → (cs : List Call) × AllInBounds pl cs × AllFit32 cs
         × ((ns : List CallAnswer) (end : State) → StepChain pl st cs ns end → firings n (nodes_fired ns) ≡ firings m (nodes_fired ns) + d)
     lead_reached_numbers m n d h a =
-        let t = follow.lead_reached pl sound m n d h a in
+        let t = runs.lead_reached pl sound m n d h a in
         (t.0, t.1, follow.bounds_fit pl sound t.0 t.1, λ ns end c. subst (λ s. firings n s ≡ firings m s + d) (sym (nodes_from c)) t.2)
 
     pub unlinked_free_numbers : (m n : ℕ) → n < pl.nodes → (Linked (graph_of pl) m n → ⊥) → (k : ℕ)
         → (cs : List Call) × AllInBounds pl cs × AllFit32 cs
         × ((ns : List CallAnswer) (end : State) → StepChain pl st cs ns end → (firings n (nodes_fired ns) ≡ k) × (firings m (nodes_fired ns) ≡ 0))
     unlinked_free_numbers m n h none k =
-        let t = follow.unlinked_free pl sound m n h none k in
+        let t = runs.unlinked_free pl sound m n h none k in
         (t.0, t.1, follow.bounds_fit pl sound t.0 t.1, λ ns end c. (ap (firings n) (nodes_from c) ∙ t.2, ap (firings m) (nodes_from c) ∙ t.3))
 
     pub reaches_numbers : (t : List ℕ) → Legal (graph_of pl) (graph_of pl).tokens t
         → (cs : List Call) × AllInBounds pl cs × AllFit32 cs
         × ((ns : List CallAnswer) (end : State) → StepChain pl st cs ns end → (nodes_fired ns ≡ t) × AllGoOn ns)
     reaches_numbers t l =
-        let x = follow.reaches pl sound t l in (
+        let x = runs.reaches pl sound t l in (
           x.calls,
           x.bounds,
           follow.bounds_fit pl sound x.calls x.bounds,

@@ -12,18 +12,15 @@ pub mod StandsFor
 pub mod EdgeTest
 pub mod FollowsCalls
 pub mod Follows
--- what an open, a look and a fire call answer
+-- what a look and a fire call answer
 pub mod LookExact
 pub mod FireExact
 -- a state stands for the firings of its run
 pub mod Stands
--- one process called alone fires; every legal order is reached
-pub mod Listed
+-- some process can be driven
 pub mod RunLaws
 pub mod InBounds
-pub mod Drive
 pub mod Driven
-pub mod Reaches
 -- a chain of results is a run
 pub mod Chain
 -- the theorems

@@ -1,11 +1,12 @@
 -- The theorems about runs of an accepted plan, over every list of calls from a fresh state, refused ones included. Each cites its proof.
+-- What a look answers, and what calls reach, stands in proofs/Theorems.
 -- Assumes nothing.
 use Rattle.std.specs.Prelude.{◌≡◌, refl, true, List, ◌↔◌, ℕ, ◌+◌, ◌*◌, ◌%◌, ◌≤◌, ◌<◌}
 use Rattle.std.proofs.Math.Logic.{inl, inr}
 use Rattle.std.proofs.Common.{arith}
 use Rattle.loops.specs.Choice.{at}
 use Rattle.loops.specs.Sum.{sum}
-use Rattle.net.specs.Graph.{firings, tokens_on, Route, Fireable, Legal, Emptiest, Linked}
+use Rattle.net.specs.Graph.{firings, tokens_on, Route, Legal, Emptiest, Linked}
 use Rattle.net.specs.Tables.{graph_of_tables}
 use Rattle.net.proofs.Emptiest.{emptiest_or_none}
 use Rattle.net.specs.Tokens as token_laws
@@ -17,24 +18,20 @@ use Rattle.judge.specs.Sound.{Sound}
 use Rattle.machine.specs.declared.State.{State}
 use Rattle.machine.specs.declared.Reply.{Reply}
 use Rattle.machine.specs.declared.Reply.TheVariants.{Fired, Refused}
-use Rattle.machine.specs.States.{mark, next_node, fresh, Sized, StateInShape}
+use Rattle.machine.specs.States.{next_node, fresh, Sized, StateInShape}
 use Rattle.machine.specs.Calls.{marks_left, both_fit}
 use Rattle.machine.specs.Runs.{Call, turn, replies, Chain}
 use Rattle.machine.specs.ShapeKept as kept
 use Rattle.machine.specs.ShapeKept.{kept_exactly, reached_kept}
 use Rattle.follow.specs.Bounds.{AllInBounds, AllFit32}
 use Rattle.follow.specs.PlanSeats.{tables}
-use Rattle.follow.specs.Meaning.{LookExact, FireMeans, state_after, fired_after, tokens_now, Stands}
+use Rattle.follow.specs.Meaning.{FireMeans, state_after, fired_after, tokens_now, Stands}
 use Rattle.follow.specs.StandsFor.{Follows}
 use Rattle.follow.specs.Follows.{reached_follows}
 use Rattle.follow.specs.Stands.{follows_stands}
 use Rattle.machine.specs.OpenExact.{OpenExact, open_is_exact}
-use Rattle.follow.specs.LookExact.{look_is_exact}
 use Rattle.follow.specs.FireExact.{fire_fires, fire_exactly, chord_token}
-use Rattle.follow.specs.DriveCalls.{YetToSee, Driven, Reached}
 use Rattle.follow.specs.InBounds as bounds
-use Rattle.follow.specs.Driven as drives
-use Rattle.follow.specs.Reaches.{every_order_reached, lead_by_calls, free_by_calls}
 use Rattle.follow.specs.Chain.{chain_is_run}
 
 -- ---- the shape
@@ -75,11 +72,6 @@ module _ (pl : Plan) (sound : Sound pl) (cs : List Call) where
       → OpenExact pl (state_after pl cs) c.process (turn pl (state_after pl cs) c)
   open_exact c z h o = open_is_exact pl sound.shape (state_after pl cs) followed.kept c.process h o c z refl
 
-  -- a look at a marked edge finds exactly where the marked graph has a token, and waits exactly where it has none
-  pub look_exact : (c : Call) → c.code ≡ 1 → c.process < pl.processes → c.edge < 512 → mark (state_after pl cs) c.process c.edge ≡ 1
-      → LookExact (tokens_now pl cs c.edge) c.process (turn pl (state_after pl cs) c)
-  look_exact = look_is_exact pl sound (state_after pl cs) (fired_after pl cs) followed
-
   -- a fire call fires exactly where its process is open with no mark left
   pub fire_exact : (c : Call) → c.code ≡ 2
       → ((v : ℕ) × ((turn pl (state_after pl cs) c).reply ≡ Fired v))
@@ -106,37 +98,7 @@ module _ (pl : Plan) (sound : Sound pl) (cs : List Call) where
   pub lead : (m n d : ℕ) → Emptiest (graph_of pl) (graph_of pl).tokens m n d → firings n (fired_after pl cs) ≤ firings m (fired_after pl cs) + d
   lead m n d a = omega (arith, lead_on_route a.some.0 m n a.some.1, a.some.2)
 
-  -- a process whose next node may fire, called alone, fires it: one open if it is closed, one look at each edge that it has yet to see, in any
-  -- order, each found, and one fire
-  pub driven : (p : ℕ) → p < pl.processes → Fireable (graph_of pl) (tokens_now pl cs) (next_node pl (state_after pl cs) p)
-      → (es : List ℕ) → YetToSee pl (state_after pl cs) p es → Driven pl (state_after pl cs) p (next_node pl (state_after pl cs) p) es
-  driven = drives.driven pl sound (state_after pl cs) (fired_after pl cs) followed
-
-  -- there is such a process, and an order of its edges
-  pub progress : (p : ℕ) × (p < pl.processes) × Fireable (graph_of pl) (tokens_now pl cs) (next_node pl (state_after pl cs) p)
-      × ((es : List ℕ) × YetToSee pl (state_after pl cs) p es × Driven pl (state_after pl cs) p (next_node pl (state_after pl cs) p) es)
-  progress =
-      let t = drives.some_process pl sound (state_after pl cs) (fired_after pl cs) followed in
-      let es = drives.yet_to_see pl sound (state_after pl cs) (fired_after pl cs) followed t.0 t.1 in
-      (t.0, t.1, t.2, (es.0, es.1, driven t.0 t.1 t.2 es.0 es.1))
-
 module _ (pl : Plan) (sound : Sound pl) where
-  -- every legal firing order is the firings of some list of calls, each of a process and an edge of the plan, of which none is refused and none waits
-  pub reaches : (t : List ℕ) → Legal (graph_of pl) (graph_of pl).tokens t → Reached pl fresh t
-  reaches = every_order_reached pl sound
-
-  -- the limit of `lead` is reached
-  pub lead_reached : (m n d : ℕ) → n < pl.nodes → Emptiest (graph_of pl) (graph_of pl).tokens m n d
-      → (cs : List Call) × AllInBounds pl cs × (firings n (fired_after pl cs) ≡ firings m (fired_after pl cs) + d)
-  unfolding graph_of graph_of_tables
-  lead_reached m n d h = lead_by_calls pl sound m n h d
-
-  -- where no route leads from m to n, n gets ahead of m as far as one likes
-  pub unlinked_free : (m n : ℕ) → n < pl.nodes → (Linked (graph_of pl) m n → ⊥) → (k : ℕ)
-      → (cs : List Call) × AllInBounds pl cs × (firings n (fired_after pl cs) ≡ k) × (firings m (fired_after pl cs) ≡ 0)
-  unfolding graph_of graph_of_tables
-  unlinked_free m n h = free_by_calls pl sound m n h
-
   -- calls in bounds are calls that C can make
   pub bounds_fit : (cs : List Call) → AllInBounds pl cs → AllFit32 cs
   bounds_fit = bounds.bounds_fit pl (tables pl sound).counts

@@ -6,6 +6,7 @@ use Rattle.std.proofs.Math.Path.{ap, subst}
 use mathlib.Core.List.{List, [], ◌∷◌, ◌++◌}
 use Rattle.net.specs.Graph.{Fireable, fire, after, Legal, Emptiest, Linked, firings}
 use Rattle.net.specs.Append.{after_append}
+use Rattle.net.specs.Lead.{Ahead}
 use Rattle.net.proofs.Lead as lead
 use Rattle.plan.specs.declared.Plan.{Plan}
 use Rattle.plan.specs.Value.{graph_of}
@@ -21,7 +22,8 @@ use Rattle.follow.specs.Follows.{run_follows}
 use Rattle.follow.specs.RunLaws.{replies_append, run_firings_append}
 use Rattle.follow.specs.DriveCalls.{drive, AllGo, Driven, Reached}
 use Rattle.follow.specs.InBounds.{bounds_append}
-use Rattle.follow.specs.Driven.{AllGo_append, driven, yet_to_see, fireable_next}
+use Rattle.follow.specs.Driven.{AllGo_append, fireable_next}
+use Rattle.follow.proofs.Driven.{driven, yet_to_see}
 
 module _ (pl : Plan) (sound : Sound pl) where
   -- calls that fire v, and calls that fire t after them
@@ -64,19 +66,23 @@ module _ (pl : Plan) (sound : Sound pl) where
   unfolding after
   every_order_reached t l = reached_from t fresh [] (fresh_follows pl sound) l
 
+  -- so is one in which n fires k times and m not at all
+  pub ahead_by_calls : (m n k : ℕ) → Ahead (graph_of pl) (graph_of pl).tokens m n k
+      → (cs : List Call) × AllInBounds pl cs × (firings n (run_firings pl fresh cs) ≡ k) × (firings m (run_firings pl fresh cs) ≡ 0)
+  ahead_by_calls m n k t =
+      let r = every_order_reached t.0 t.1 in
+      (r.calls, r.bounds, ap (firings n) r.fires ∙ t.3, ap (firings m) r.fires ∙ t.2)
+
   module _ (m n : ℕ) (h : n < (graph_of pl).nodes) where
     -- n gets ahead of m by the tokens of the emptiest route
     pub lead_by_calls : (d : ℕ) → Emptiest (graph_of pl) (graph_of pl).tokens m n d
         → (cs : List Call) × AllInBounds pl cs × (firings n (run_firings pl fresh cs) ≡ firings m (run_firings pl fresh cs) + d)
     lead_by_calls d a =
-        let t = lead.lead_reached (graph_of pl) (graph_of pl).tokens (shaped pl sound) (every_cycle_holds pl sound) m n h d a in
-        let r = every_order_reached t.0 t.1 in
-        (r.calls, r.bounds, rw r.fires (omega (arith, t.2, t.3)))
+        let t = ahead_by_calls m n d (lead.lead_reached (graph_of pl) (graph_of pl).tokens (shaped pl sound) (every_cycle_holds pl sound) m n h d a) in
+        (t.0, t.1, omega (arith, t.2, t.3))
 
     -- and as far as one likes where no route leads from m to n
     pub free_by_calls : (Linked (graph_of pl) m n → ⊥) → (k : ℕ)
         → (cs : List Call) × AllInBounds pl cs × (firings n (run_firings pl fresh cs) ≡ k) × (firings m (run_firings pl fresh cs) ≡ 0)
     free_by_calls none k =
-        let t = lead.unlinked_free (graph_of pl) (graph_of pl).tokens (shaped pl sound) (every_cycle_holds pl sound) m n h none k in
-        let r = every_order_reached t.0 t.1 in
-        (r.calls, r.bounds, ap (firings n) r.fires ∙ t.3, ap (firings m) r.fires ∙ t.2)
+        ahead_by_calls m n k (lead.unlinked_free (graph_of pl) (graph_of pl).tokens (shaped pl sound) (every_cycle_holds pl sound) m n h none k)

@@ -33,7 +33,7 @@ use Rattle.follow.specs.EdgeTest.{found_exactly}
 use Rattle.follow.specs.FollowsCalls.{open_follows, found_follows}
 use Rattle.machine.specs.OpenExact.{opens, is_open}
 use Rattle.follow.specs.LookExact.{end_next}
-use Rattle.follow.specs.Listed.{listed_first, listed_length}
+use Rattle.follow.proofs.Listed.{listed_first, listed_length}
 use Rattle.follow.specs.RunLaws.{replies_append, replies_first, last_first, replies_none, last_none}
 use Rattle.follow.specs.DriveCalls.{to_open, to_look, to_fire, opening, looks, drive, YetToSee, opening_answers, look_answers, drive_answers, Listed}
 
