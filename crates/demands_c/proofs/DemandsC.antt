@@ -39,9 +39,9 @@ use Rattle.tamsklor.specs.declared.Stepped.{Stepped}
 use Rattle.tamsklor.specs.Numbers.{numbers_of, numbers_of_read, numbers_of_begin, numbers_of_reply, numbers_of_level, StepPromise}
 use Rattle.tamsklor.specs.Theorems as tamsklor
 use Rattle.demands_c.specs.InNumbers.{StepChain, SteppedChain, told_reply, told_level, told_read, RefusedAlike, AcceptedAlike, nodes_fired, AllGoOn, OpenInNumbers, LookInNumbers, DrivenInNumbers}
-use Rattle.demands_c.specs.NumbersApart as apart
-use Rattle.demands_c.specs.CheckNumbers as check
-use Rattle.demands_c.specs.ChainOfNumbers as chain
+use Rattle.demands_c.proofs.NumbersApart as apart
+use Rattle.demands_c.proofs.CheckNumbers as check
+use Rattle.demands_c.proofs.ChainOfNumbers as chain
 
 -- ---- the plan check
 module _ (s : List ℕ) (v : Verdict) (e : v ≡ numbers_of (verdict s)) where

@@ -14,7 +14,7 @@ use Rattle.reader.specs.Theorems as reader
 use Rattle.reader.specs.Tests.{IsAccepted}
 use Rattle.tamsklor.specs.declared.Verdict.{Verdict}
 use Rattle.tamsklor.specs.Numbers.{numbers_of}
-use Rattle.demands_c.specs.NumbersApart.{accepted_number, refused_number}
+use Rattle.demands_c.proofs.NumbersApart.{accepted_number, refused_number}
 
 module _ (s : List ℕ) where
   -- what `tamsklor_plan_check` hands out

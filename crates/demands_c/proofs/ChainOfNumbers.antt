@@ -40,8 +40,8 @@ use Rattle.tamsklor.specs.declared.CallAnswer.{CallAnswer}
 use Rattle.tamsklor.specs.declared.Stepped.{Stepped}
 use Rattle.tamsklor.specs.Numbers.{numbers_of, beside_plan, numbers_of_read, numbers_of_begin, numbers_of_reply, StepPromise}
 use Rattle.demands_c.specs.InNumbers.{StepChain, SteppedChain, node_of, nodes_fired, GoesOn, AllGoOn, OpenInNumbers, LookInNumbers, DrivenInNumbers}
-use Rattle.demands_c.specs.NumbersApart.{kind_found, kind_wait, kind_fired}
-use Rattle.demands_c.specs.CheckNumbers.{zero_accepted}
+use Rattle.demands_c.proofs.NumbersApart.{kind_found, kind_wait, kind_fired}
+use Rattle.demands_c.proofs.CheckNumbers.{zero_accepted}
 
 -- ---- a chain is a run
 -- the numbers and the last state of a chain are the run's
