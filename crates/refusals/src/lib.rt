@@ -15,6 +15,7 @@ fn is_marked(marks: &[u8; 32768], edges: u16, p: usize, edge: u32) -> bool
 }
 
 // 20 unknown process; 21 open on an open process.
+#[tactic(auto, unfolding(crate::specs::Numbers::open_number), using(loops::specs::Choice::ifs, crate::specs::Limits::limits))]
 pub fn of_open(processes: u16, opened: &[u8; 64], process: u32) -> u32
     requires { processes ≤ 64 }
     ensures { result ≡ open_number processes opened.now process }
@@ -51,6 +52,7 @@ pub fn of_look<'a>(
 }
 
 // 20 unknown process; 22 fire on a closed one; 24 fire with marks left.
+#[tactic(auto, unfolding(crate::specs::Numbers::fire_number), using(loops::specs::Choice::ifs, crate::specs::Limits::limits))]
 pub fn of_fire<'a>(
     processes: u16,
     opened: &'a [u8; 64],
