@@ -41,7 +41,7 @@ use Rattle.tamsklor.specs.declared.Stepped.{Stepped}
 use Rattle.tamsklor.specs.Numbers.{numbers_of, beside_plan, numbers_of_read, numbers_of_begin, numbers_of_reply, StepPromise}
 use Rattle.demands_c.specs.InNumbers.{StepChain, SteppedChain, node_of, nodes_fired, GoesOn, AllGoOn, OpenInNumbers, LookInNumbers, DrivenInNumbers}
 use Rattle.demands_c.proofs.NumbersApart.{kind_found, kind_wait, kind_fired}
-use Rattle.demands_c.proofs.CheckNumbers.{zero_accepted}
+use Rattle.demands_c.proofs.CheckNumbers.{zero_alone, accepted_zero}
 
 -- ---- a chain is a run
 -- the numbers and the last state of a chain are the run's
@@ -195,7 +195,7 @@ module _ (s : List ℕ) (r : PlanRead) (e : r ≡ numbers_of_read (read_of s)) w
   -- number 0 exactly where the image is accepted
   pub read_zero : (r.number ≡ 0) ↔ IsAccepted s
   unfolding numbers_of_read beside_plan read_of
-  read_zero = rw e (zero_accepted s)
+  read_zero = rw e (zero_alone s, accepted_zero s)
 
   -- the plan is the image's
   pub read_plan : IsAccepted s → r.plan ≡ plan_of s

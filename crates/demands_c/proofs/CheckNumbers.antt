@@ -25,22 +25,26 @@ module _ (s : List ℕ) where
   accepted_is : (a : IsAccepted s) → handed ≡ record { number = 0; place = 0; least = a.2 }
   accepted_is a = accepted_number s a.0 a.1 a.2 a.3
 
+  -- number 0 is an accepted image's, and no other
+  pub accepted_zero : IsAccepted s → handed.number ≡ 0
+  accepted_zero a = ap (λ v. v.number) (accepted_is a)
+
+  pub zero_alone : handed.number ≡ 0 → IsAccepted s
+  zero_alone z =
+      elim (reader.answered s) [
+        | inl a ↦ a
+        | inr h ↦ absurd (omega (arith, z, ap (λ v. v.number) (refused_number s h.0 h.1 h.2), h.3))
+      ]
+
   -- number 0 exactly where the image is accepted
   pub zero_accepted : (handed.number ≡ 0) ↔ IsAccepted s
-  zero_accepted = (
-    λ z.
-        elim (reader.answered s) [
-          | inl a ↦ a
-          | inr h ↦ absurd (omega (arith, z, ap (λ v. v.number) (refused_number s h.0 h.1 h.2), h.3))
-        ],
-    λ a. ap (λ v. v.number) (accepted_is a),
-  )
+  zero_accepted = (zero_alone, accepted_zero)
 
   -- that is where layout and conditions hold
   pub zero_exactly : (handed.number ≡ 0) ↔ (Layout s × Upheld (plan_of s))
   zero_exactly =
       let x = reader.accepted_exactly s in
-      (λ z. x.0 (zero_accepted.0 z), λ h. zero_accepted.1 (x.1 h))
+      (λ z. x.0 (zero_alone z), λ h. accepted_zero (x.1 h))
 
   -- another number with its place exactly where they are the first fault
   pub first_fault : (k p : ℕ) → k ≢ 0 → ((handed.number ≡ k) × (handed.place ≡ p)) ↔ FirstFault (image_order s) k p
@@ -66,17 +70,17 @@ module _ (s : List ℕ) where
 
   -- after number 0 the place is 0, and the least modulus is the smallest N that would pass 15 and 16
   pub place_none : handed.number ≡ 0 → handed.place ≡ 0
-  place_none z = ap (λ v. v.place) (accepted_is (zero_accepted.0 z))
+  place_none z = ap (λ v. v.place) (accepted_is (zero_alone z))
 
   pub least_there : handed.number ≡ 0 → LeastModulus (plan_of s) handed.least
   least_there z =
-      let a = zero_accepted.0 z in
+      let a = zero_alone z in
       subst (LeastModulus (plan_of s)) (sym (ap (λ v. v.least) (accepted_is a))) (reader.least_is_least s a.0 a.1 a.2 a.3).0
 
   -- after another it is 0
   pub least_none : handed.number ≢ 0 → handed.least ≡ 0
   least_none some =
       elim (reader.answered s) [
-        | inl a ↦ absurd (some (zero_accepted.1 a))
+        | inl a ↦ absurd (some (accepted_zero a))
         | inr h ↦ ap (λ v. v.least) (refused_number s h.0 h.1 h.2)
       ]
