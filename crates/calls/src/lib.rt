@@ -186,6 +186,7 @@ pub fn begin(plan: Plan) -> Began
 }
 
 // A call by its code on a state where it stands: a code above 2 is refused with 26, before all else. The state's lists are lent all at once.
+#[tactic(auto, using(machine::specs::Stepping::answers_26))]
 pub fn step_on(plan: &Plan, state: &mut State, code: u32, process: u32, edge: u32) -> Reply
     ensures { turned result state.new ≡ step_call plan.now state.old code process edge }
 {
