@@ -78,10 +78,9 @@ pub fn read(image: &[u8]) -> ReadPlan
     ReadPlan { answer, plan }
 }
 
-// Test 3, and what comes after it. The plan, empty before, is filled in where it is accepted.
+// Test 3, and what comes after it. What stands in the plan is the image's plan, or nothing of it after a refusal.
 fn read_counted(image: &[u8], plan: &mut Plan) -> Answer
-    requires tested { (36 ≤ length image.now) × (good_format image.now ≡ true) }
-    requires empty { plan.old ≡ no_plan }
+    requires { (36 ≤ length image.now) × (good_format image.now ≡ true) }
     ensures { reading result plan.new ≡ read_of image.now }
 {
     let counts = entries::counts_bad(
@@ -92,6 +91,7 @@ fn read_counted(image: &[u8], plan: &mut Plan) -> Answer
         numerals::quad_at(image, 12),
     );
     if counts {
+        *plan = empty_plan();
         return refusal(3);
     }
     if image::offsets_fit(image) {
@@ -113,5 +113,6 @@ fn read_counted(image: &[u8], plan: &mut Plan) -> Answer
         beside(answer, plan);
         return answer;
     }
+    *plan = empty_plan();
     refusal(4)
 }
