@@ -153,6 +153,7 @@ fn put_run(input: &[u8], out: &mut [u8]) -> usize
 }
 
 // The text: with more than 65,536 bytes `too long` only.
+#[tactic(auto, using(crate::specs::Printing::text_long, crate::specs::Printing::text_run))]
 fn put_text(input: &[u8], out: &mut [u8]) -> usize
     ensures { Put out.old 0 (text_of input.now) out.new result × (result ≤ 409642) }
 {
