@@ -278,7 +278,7 @@ int main(int arguments, char **argument)
         else
             check(suffices(export, export->size), export->name, export->size);
     }
-    check(!suffices(&exports[4], TAMSKLOR_RUN_STEPPED_THREAD / 2),
+    check(!suffices(&exports[3], TAMSKLOR_RUN_STEP_THREAD / 2),
           "a stack that is too small is seen", 0);
     return check_end("host_threads");
 }

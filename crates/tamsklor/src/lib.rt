@@ -219,8 +219,9 @@ pub fn tamsklor_run_step<'a, 'b>(
 ) -> CallAnswer
     ensures { (result ≡ numbers_of_reply (step_call plan.now state.old code process edge).reply) × (state.new ≡ (step_call plan.now state.old code process edge).state) }
 {
-    let reply = calls::step_on(plan, state, code, process, edge);
-    as_call_answer(reply)
+    let r = tamsklor_run_stepped(*plan, *state, code, process, edge);
+    *state = r.state;
+    r.answer
 }
 
 // The token reading of an edge, plan and state by value.
