@@ -65,7 +65,7 @@ def ticked(cell):
 
 def functions_missing(cell):
     for function in ticked(cell):
-        crate, _, name = function.partition("::")
+        crate, *_, name = function.split("::")
         sources = (ROOT / "crates" / crate / "src").glob("*.rt")
         if not any(re.search(r"\bfn %s\b" % name, read(path)) for path in sources):
             yield f"no function {function}"

@@ -9,7 +9,7 @@ import re
 import sys
 from pathlib import Path
 
-SOURCES = ["plan", "machine", "tamsklor"]
+SOURCES = ["plan", "state", "tamsklor"]
 LIBRARY, EXPORTS = "tamsklor", "tamsklor_c"
 NUMBERS = {"uint8_t": "u8", "uint16_t": "u16", "uint32_t": "u32"}
 PREFIX = "Tamsklor"

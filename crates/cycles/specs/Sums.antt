@@ -1,17 +1,15 @@
--- The list of loop sums, entered one node's row at a time. `search (rules, enterings)` answers the pass over the edges,
--- `search (rules, summings)` the loop over the nodes. Assumes nothing.
+-- The list of loop sums, entered one node's row at a time: the pass over the edges (`enterings`), and the loop over the nodes (`summings`).
+-- Assumes nothing.
 use Rattle.std.specs.Prelude.{ℕ, zero, suc, ◌+◌, ◌<◌, ◌≤◌, ◌≡◌, refl, List, eqb, ltb, set, replicate}
 use Rattle.std.proofs.Math.Decide.{ℕ_discrete, dec_lt}
 use Rattle.std.proofs.Common.{arith, ◌∙◌, ext_get_or}
 use Rattle.std.proofs.Math.Path.{sym, ap}
 use borrow.Author.Tests.{lt-ltb, le-ltb, eq-eqb, ne_eqb}
-use Rattle.std.proofs.lemmas.List.{length-replicate}
+use Rattle.std.proofs.lemmas.List.{length-replicate, set-get_or}
 use Rattle.loops.specs.Choice.{at, if, if_true, if_false}
 use Rattle.loops.specs.Row.{stored, Row, row_begin, row_more, row_over, stored_length, stored_at, stored_other}
 use Rattle.loops.specs.Table.{entries, padded, padded_length, padded_at, padded_past, zeros_at}
 use Rattle.routes.specs.Rows.{emptiest_row}
-use Rattle.routes.specs.Relaxing.{Low}
-use Rattle.routes.specs.Settling.{row_most}
 use Rattle.cycles.specs.Lent.{loop_sum_in, entered, Known}
 
 -- the invariant of the pass over the edges at edge e: the entries below e are entered from node v's row
@@ -21,7 +19,7 @@ pub record Entering (source destination tokens row : List ℕ) (v : ℕ) (sums :
 pub enter_begin : (source destination tokens row : List ℕ) (v : ℕ) (sums : List ℕ) (edges : ℕ) → Entering source destination tokens row v sums edges 0 sums
 enter_begin source destination tokens row v sums edges = record { passed = row_begin (entered source destination tokens row v sums) 0 sums edges }
 
--- the code's turn
+-- a turn: the entry is written anew or as it stands
 pub enter_more : {source destination tokens row sums : List ℕ} {v edges e : ℕ} {x : List ℕ} {through r : ℕ}
     → Entering source destination tokens row v sums edges e x → e < edges → through ≡ at tokens e + at row (at source e)
     → r ≡ if (eqb (at destination e) v) through (at x e) → Entering source destination tokens row v sums edges (e + 1) (set x e r)
@@ -32,11 +30,24 @@ enter_more {source} {destination} {tokens} {row} {sums} {v} {e = e} {x} inv h p 
     let kept : at x e ≡ at sums e = ap (λ l. at l e) inv.passed.so_far ∙ stored_other f 0 sums e e (λ j m y. omega arith) in
     record { passed = rw z at (row_more inv.passed h (r ∙ rw (p, kept))) }
 
+-- an edge into node v has its sum written
+pub enter_written : {source destination tokens row sums : List ℕ} {v edges e : ℕ} {x : List ℕ} {through : ℕ}
+    → Entering source destination tokens row v sums edges e x → e < edges → through ≡ at tokens e + at row (at source e) → at destination e ≡ v
+    → Entering source destination tokens row v sums edges (e + 1) (set x e through)
+enter_written {destination = destination} {v = v} {e = e} inv h p q = enter_more inv h p (sym (if_true (eqb (at destination e) v) _ _ (eq-eqb _ _ q)))
+
+-- any other edge's entry stays
+pub enter_kept : {source destination tokens row sums : List ℕ} {v edges e : ℕ} {x : List ℕ}
+    → Entering source destination tokens row v sums edges e x → e < edges → (at destination e ≡ v → ⊥)
+    → Entering source destination tokens row v sums edges (e + 1) x
+enter_kept {destination = destination} {v = v} {e = e} {x = x} inv h q =
+    rw (set-get_or x e 0) at (enter_more inv h refl (sym (if_false (eqb (at destination e) v) _ _ (ne_eqb _ _ q))))
+
 pub enter_over : {source destination tokens row sums : List ℕ} {v edges e : ℕ} {x : List ℕ}
     → Entering source destination tokens row v sums edges e x → edges ≤ e → x ≡ stored (entered source destination tokens row v sums) 0 sums edges
 enter_over inv h = row_over inv.passed h
 
-pub ruleset enterings = (enter_begin, enter_more, enter_over)
+pub ruleset enterings = (enter_begin, enter_written, enter_kept, enter_over)
 
 -- two tables with the same entries
 padded_same : (f g : ℕ → ℕ) (size n : ℕ) → ((k : ℕ) → k < n → f k ≡ g k) → padded f size n ≡ padded g size n
@@ -131,9 +142,5 @@ summed_over {source} {destination} {tokens} {edges} {v = v} inv h known =
     inv.so_far
     ∙ padded_same (sum_below source destination tokens edges v) (loop_sum_in source destination tokens edges) 512 edges
     (λ e l. if_true (ltb (at destination e) v) _ _ (lt-ltb (at destination e) v (omega (arith, known e l))))
-
--- no entry of the row is above `no_route`
-pub row_low : (source destination tokens : List ℕ) (edges from : ℕ) (row : List ℕ) → row ≡ emptiest_row source destination tokens edges from → from < 64 → Low row
-row_low source destination tokens edges from row e h v = omega (arith, ap (λ x. at x v) e, row_most source destination tokens edges from v h)
 
 pub ruleset summings = (summed_begin, summed_more, summed_over)

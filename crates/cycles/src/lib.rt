@@ -1,94 +1,48 @@
 #![tactic(auto)]
 // Loop sums, tests 13, 14 and 16 over them, and the least modulus.
-ghost use Rattle.std.specs.Prelude.{◌≡◌, ◌+◌, ◌*◌, ◌<◌, ◌≤◌, max, eqb};
-ghost use Rattle.loops.specs.Choice.{at, if};
-ghost use Rattle.loops.specs.First.{first};
+// Bounds of counts stay in each `requires`: a type that held them all would ask more of a caller than each function asks.
+ghost use Rattle.std.specs.Prelude.{◌≡◌, ◌+◌, ◌*◌, ◌<◌, ◌≤◌};
 ghost use Rattle.loops.specs.Any.{any};
+ghost use Rattle.loops.specs.Choice.{at};
 ghost use Rattle.loops.specs.Row.{stored};
 ghost use Rattle.loops.specs.Table.{padded};
-ghost use Rattle.routes.specs.Rows.{no_route};
-ghost use Rattle.routes.specs.Relaxing.{Low, EndsInRow};
-ghost use Rattle.cycles.specs.Lent.{loop_sum_in, entered, free_in, closes_free_in, on_free_cycle_in, no_way_back_in, not_above_in, asks_in, most_asked, Known, Small};
+ghost use Rattle.loops.specs.Values.{lowest};
+ghost use Rattle.routes.specs.Relaxing.{EndsInRow};
+ghost use Rattle.cycles.specs.Lent.{loop_sum_in, entered, free_in, closes_free_in, on_free_cycle_in, no_way_back_in, not_above_in, asks_in, most_asked, Known, Bounded};
 
-use numerals::to_index;
-use routes::NO_ROUTE;
+use plan::Plan;
+use routes::{NO_ROUTE, Row};
 
-// An edge's tokens and those of a route.
-fn joined(tokens: u16, back: u32) -> u32
-    requires { back ≤ no_route }
-    ensures { result ≡ tokens + back }
-{
-    (tokens as u32) + back
+// The loop sum of each edge, 0 past the count. None is above the tokens that an edge can hold and `NO_ROUTE`.
+#[derive(Clone, Copy)]
+pub struct LoopSums {
+    pub sums: [u32; 512],
+    ghost bounded: { Bounded sums },
 }
 
 // An edge's tokens plus those on the emptiest route back, from the row of its end node.
-fn through_at<'a>(
-    row: &'a [u32; 64],
-    source: &'a [u16; 512],
-    tokens: &'a [u16; 512],
-    e: usize,
-) -> u32
-    requires { (e < 512) × (at source.now e < 64) × Low row.now }
-    ensures { result ≡ at tokens.now e + at row.now (at source.now e) }
+fn through_at(plan: &Plan, row: &Row, e: usize) -> u32
+    requires { (e < 512) × (at plan.now.source e < 64) }
+    ensures { (result ≡ at plan.now.tokens e + at row.now.entries (at plan.now.source e)) × (result ≤ 165535) }
 {
-    let s = to_index(source[e]);
-    joined(tokens[e], row[s])
-}
-
-// The entry of an edge: its loop sum where it ends in node v, otherwise what was there.
-fn entry_of(destination: u16, v: usize, through: u32, entry: u32) -> u32
-    ensures { result ≡ if (eqb destination v) through entry }
-{
-    if to_index(destination) == v {
-        through
-    } else {
-        entry
-    }
-}
-
-// Enters the loop sums of the edges that end in node v, from v's row.
-fn enter_row<'a>(
-    sums: &mut [u32; 512],
-    row: &'a [u32; 64],
-    source: &'a [u16; 512],
-    destination: &'a [u16; 512],
-    tokens: &'a [u16; 512],
-    edges: usize,
-    v: usize,
-)
-    requires { (edges ≤ 512) × EndsInRow source.now destination.now edges × Low row.now }
-    ensures { sums.new ≡ stored (entered source.now destination.now tokens.now row.now v sums.old) 0 sums.old edges }
-{
-    let mut e: usize = 0;
-    while e < edges {
-        let through = through_at(row, source, tokens, e);
-        sums[e] = entry_of(destination[e], v, through, sums[e]);
-        e += 1;
-    }
+    u32::from(plan.tokens[e]) + row.entries[usize::from(plan.source[e])]
 }
 
 // The loop sum of each edge, its tokens plus those on the emptiest route back, 0 past the count: one row a node.
-pub fn loop_sums<'a>(
-    source: &'a [u16; 512],
-    destination: &'a [u16; 512],
-    tokens: &'a [u16; 512],
-    nodes: usize,
-    edges: usize,
-) -> [u32; 512]
-    requires { (nodes ≤ 64) × (edges ≤ 512) × EndsInRow source.now destination.now edges × Known destination.now nodes edges }
-    ensures { result ≡ padded (loop_sum_in source.now destination.now tokens.now edges) 512 edges }
+pub fn loop_sums(plan: &Plan) -> LoopSums
+    requires { (plan.now.nodes ≤ 64) × (plan.now.edges ≤ 512) × EndsInRow plan.now.source plan.now.destination plan.now.edges × Known plan.now.destination plan.now.nodes plan.now.edges }
+    ensures { result.sums ≡ padded (loop_sum_in plan.now.source plan.now.destination plan.now.tokens plan.now.edges) 512 plan.now.edges }
 {
-    let mut sums: [u32; 512] = [0; 512];
-    let mut v: usize = 0;
-    while v < nodes {
-        let row = routes::emptiest_row(v, source, destination, tokens, edges);
-        enter_row(&mut sums, &row, source, destination, tokens, edges, v);
-        v += 1;
+    let mut sums = LoopSums { sums: [0; 512] };
+    for v in 0..usize::from(plan.nodes) {
+        let row = routes::emptiest_row(plan, v);
+        sums.enter_row(plan, &row, v);
     }
     sums
 }
 
 // An edge closes a cycle without tokens.
+#[tactic(auto, unfolding(crate::specs::Lent::free_in))]
 fn is_free_at(sums: &[u32; 512], e: usize) -> bool
     requires { e < 512 }
     ensures { result ≡ free_in sums.now e }
@@ -97,187 +51,120 @@ fn is_free_at(sums: &[u32; 512], e: usize) -> bool
 }
 
 // Some edge closes a cycle without tokens.
-fn some_free(sums: &[u32; 512], edges: usize) -> bool
-    requires { edges ≤ 512 }
-    ensures { result ≡ any (free_in sums.now) edges }
+fn some_free(plan: &Plan, sums: &[u32; 512]) -> bool
+    requires { plan.now.edges ≤ 512 }
+    ensures { result ≡ any (free_in sums.now) plan.now.edges }
 {
-    let mut e: usize = 0;
-    while e < edges {
-        if is_free_at(sums, e) {
-            return true;
-        }
-        e += 1;
-    }
-    false
+    (0..usize::from(plan.edges)).any(|e| is_free_at(sums, e))
 }
 
 // An edge ends in node v and closes a cycle without tokens.
-fn closes_free_at<'a>(destination: &'a [u16; 512], sums: &'a [u32; 512], v: usize, e: usize) -> bool
+#[tactic(auto, using(loops::specs::Choice::ifs), unfolding(crate::specs::Lent::closes_free_in, crate::specs::Lent::free_in, loops::specs::Values::both))]
+fn closes_free_at(plan: &Plan, sums: &[u32; 512], v: usize, e: usize) -> bool
     requires { e < 512 }
-    ensures { result ≡ closes_free_in destination.now sums.now v e }
+    ensures { result ≡ closes_free_in plan.now.destination sums.now v e }
 {
-    if to_index(destination[e]) == v {
-        is_free_at(sums, e)
-    } else {
-        false
-    }
+    usize::from(plan.destination[e]) == v && is_free_at(sums, e)
 }
 
 // Node v is on a cycle without tokens.
-fn on_free_cycle_at<'a>(
-    destination: &'a [u16; 512],
-    sums: &'a [u32; 512],
-    edges: usize,
-    v: usize,
-) -> bool
-    requires { edges ≤ 512 }
-    ensures { result ≡ on_free_cycle_in destination.now sums.now edges v }
+fn on_free_cycle_at(plan: &Plan, sums: &[u32; 512], v: usize) -> bool
+    requires { plan.now.edges ≤ 512 }
+    ensures { result ≡ on_free_cycle_in plan.now.destination sums.now plan.now.edges v }
 {
-    let mut e: usize = 0;
-    while e < edges {
-        if closes_free_at(destination, sums, v, e) {
-            return true;
-        }
-        e += 1;
-    }
-    false
+    (0..usize::from(plan.edges)).any(|e| closes_free_at(plan, sums, v, e))
 }
 
-// The lowest node on a cycle without tokens, or the number of nodes.
-fn lowest_on_free_cycle<'a>(
-    destination: &'a [u16; 512],
-    sums: &'a [u32; 512],
-    edges: usize,
-    nodes: usize,
-) -> usize
-    requires { edges ≤ 512 }
-    ensures { result ≡ first (on_free_cycle_in destination.now sums.now edges) nodes }
+// Number 13: the lowest node on a cycle without tokens; looked for only where some edge closes such a cycle. (13 and 14 take any table of sums: as methods of `LoopSums` they would ask for its bound.)
+pub fn first_on_free_cycle(plan: &Plan, sums: &[u32; 512]) -> Option<usize>
+    requires { plan.now.edges ≤ 512 }
+    ensures { result ≡ lowest (on_free_cycle_in plan.now.destination sums.now plan.now.edges) plan.now.nodes }
 {
-    let mut v: usize = 0;
-    while v < nodes {
-        if on_free_cycle_at(destination, sums, edges, v) {
-            return v;
-        }
-        v += 1;
+    if !some_free(plan, sums) {
+        return None;
     }
-    v
-}
-
-// Number 13: the lowest node on a cycle without tokens, or the number of nodes; looked for only where some edge closes such a cycle.
-pub fn first_on_free_cycle<'a>(
-    destination: &'a [u16; 512],
-    sums: &'a [u32; 512],
-    edges: usize,
-    nodes: usize,
-) -> usize
-    requires { edges ≤ 512 }
-    ensures { result ≡ first (on_free_cycle_in destination.now sums.now edges) nodes }
-{
-    if some_free(sums, edges) {
-        return lowest_on_free_cycle(destination, sums, edges, nodes);
-    }
-    nodes
+    (0..usize::from(plan.nodes)).find(|v| on_free_cycle_at(plan, sums, *v))
 }
 
 // A synchronising edge without a route back.
-fn no_way_back_at<'a>(crossing: &'a [u8; 512], sums: &'a [u32; 512], e: usize) -> bool
+#[tactic(auto, using(loops::specs::Choice::ifs), unfolding(crate::specs::Lent::no_way_back_in, loops::specs::Values::both))]
+fn no_way_back_at(crossing: &[u8; 512], sums: &[u32; 512], e: usize) -> bool
     requires { e < 512 }
     ensures { result ≡ no_way_back_in crossing.now sums.now e }
 {
-    if NO_ROUTE <= sums[e] {
-        crossing[e] == 1
-    } else {
-        false
-    }
+    NO_ROUTE <= sums[e] && crossing[e] == 1
 }
 
-// Number 14: the lowest synchronising edge without a route back, or the number of edges.
-pub fn first_no_way_back<'a>(crossing: &'a [u8; 512], sums: &'a [u32; 512], edges: usize) -> usize
-    requires { edges ≤ 512 }
-    ensures { result ≡ first (no_way_back_in crossing.now sums.now) edges }
+// Number 14: the lowest synchronising edge without a route back.
+pub fn first_no_way_back(plan: &Plan, crossing: &[u8; 512], sums: &[u32; 512]) -> Option<usize>
+    requires { plan.now.edges ≤ 512 }
+    ensures { result ≡ lowest (no_way_back_in crossing.now sums.now) plan.now.edges }
 {
-    let mut e: usize = 0;
-    while e < edges {
-        if no_way_back_at(crossing, sums, e) {
-            return e;
+    (0..usize::from(plan.edges)).find(|e| no_way_back_at(crossing, sums, *e))
+}
+
+impl LoopSums {
+    // Enters the loop sums of the edges that end in node v, from v's row.
+    #[tactic(auto, using(crate::specs::Bounds::set_bounded))]
+    fn enter_row(&mut self, plan: &Plan, row: &Row, v: usize)
+        requires { (plan.now.edges ≤ 512) × EndsInRow plan.now.source plan.now.destination plan.now.edges }
+        ensures { self.new.sums ≡ stored (entered plan.now.source plan.now.destination plan.now.tokens row.now.entries v self.old.sums) 0 self.old.sums plan.now.edges }
+    {
+        for e in 0..usize::from(plan.edges) {
+            if usize::from(plan.destination[e]) == v {
+                self.sums[e] = through_at(plan, row, e);
+            }
         }
-        e += 1;
     }
-    e
-}
 
-// A synchronising edge whose bound, Q times its loop sum, N does not exceed.
-fn not_above_at<'a>(
-    crossing: &'a [u8; 512],
-    sums: &'a [u32; 512],
-    modulus: u32,
-    q: u32,
-    e: usize,
-) -> bool
-    requires { (e < 512) × (q ≤ 16320) × Small sums.now }
-    ensures { result ≡ not_above_in crossing.now sums.now modulus (λ d. q) e }
-{
-    if crossing[e] == 1 {
-        modulus <= q * sums[e]
-    } else {
-        false
+    // A synchronising edge whose bound, Q times its loop sum, N does not exceed.
+    #[tactic(auto, using(loops::specs::Choice::ifs), unfolding(crate::specs::Lent::not_above_in, loops::specs::Values::both))]
+    fn is_not_above(&self, plan: &Plan, crossing: &[u8; 512], q: u32, e: usize) -> bool
+        requires { (e < 512) × (q ≤ 16320) }
+        ensures { result ≡ not_above_in crossing.now self.now.sums plan.now.modulus (λ d. q) e }
+    {
+        crossing[e] == 1 && plan.modulus <= q * self.sums[e]
     }
-}
 
-// Number 16: the lowest synchronising edge whose bound N does not exceed, or the number of edges.
-pub fn first_not_above<'a>(
-    crossing: &'a [u8; 512],
-    sums: &'a [u32; 512],
-    edges: usize,
-    modulus: u32,
-    q: u32,
-) -> usize
-    requires { (edges ≤ 512) × (q ≤ 16320) × Small sums.now }
-    ensures { result ≡ first (not_above_in crossing.now sums.now modulus (λ d. q)) edges }
-{
-    let mut e: usize = 0;
-    while e < edges {
-        if not_above_at(crossing, sums, modulus, q, e) {
-            return e;
+    // Number 16: the lowest synchronising edge whose bound N does not exceed.
+    pub fn first_not_above(&self, plan: &Plan, crossing: &[u8; 512], q: u32) -> Option<usize>
+        requires { (plan.now.edges ≤ 512) × (q ≤ 16320) }
+        ensures { result ≡ lowest (not_above_in crossing.now self.now.sums plan.now.modulus (λ d. q)) plan.now.edges }
+    {
+        (0..usize::from(plan.edges)).find(|e| self.is_not_above(plan, crossing, q, *e))
+    }
+
+    // What an edge asks of the modulus, in sums of Q: more than its loop sum where it synchronises, else 1.
+    #[tactic(auto, using(loops::specs::Choice::ifs), unfolding(crate::specs::Lent::asks_in))]
+    fn asks(&self, crossing: &[u8; 512], e: usize) -> u32
+        requires { e < 512 }
+        ensures { (result ≡ asks_in crossing.now self.now.sums e) × (result ≤ 165536) }
+    {
+        if crossing[e] == 1 {
+            self.sums[e] + 1
+        } else {
+            1
         }
-        e += 1;
     }
-    e
-}
 
-// What an edge asks of the modulus, in sums of Q: more than its loop sum where it synchronises, else 1.
-fn asks_at<'a>(crossing: &'a [u8; 512], sums: &'a [u32; 512], e: usize) -> u32
-    requires { (e < 512) × Small sums.now }
-    ensures { (result ≡ asks_in crossing.now sums.now e) × (result ≤ 101001) }
-{
-    if crossing[e] == 1 { sums[e] + 1 } else { 1 }
-}
-
-// The greater of two numbers.
-fn greater(a: u32, b: u32) -> u32
-    ensures { result ≡ max a b }
-{
-    if a < b { b } else { a }
-}
-
-// The most that an edge asks of the modulus, in sums of Q.
-fn most_asked_of<'a>(crossing: &'a [u8; 512], sums: &'a [u32; 512], edges: usize) -> u32
-    requires { (edges ≤ 512) × Small sums.now }
-    ensures { (result ≡ most_asked crossing.now sums.now edges) × (result ≤ 101001) }
-{
-    let mut most: u32 = 1;
-    let mut edge: usize = 0;
-    while edge < edges {
-        most = greater(most, asks_at(crossing, sums, edge));
-        edge += 1;
+    // The most that an edge asks of the modulus, in sums of Q.
+    #[tactic(auto, unfolding(crate::specs::Lent::most_asked))]
+    fn most_asked(&self, plan: &Plan, crossing: &[u8; 512]) -> u32
+        requires { plan.now.edges ≤ 512 }
+        ensures { (result ≡ most_asked crossing.now self.now.sums plan.now.edges) × (result ≤ 165536) }
+    {
+        let mut most: u32 = 1;
+        for edge in 0..usize::from(plan.edges) {
+            most = most.max(self.asks(crossing, edge));
+        }
+        most
     }
-    most
-}
 
-// The least modulus: the smallest N that would pass 15 and 16.
-pub fn least_modulus<'a>(crossing: &'a [u8; 512], sums: &'a [u32; 512], edges: usize, q: u32) -> u32
-    requires { (edges ≤ 512) × (q ≤ 16320) × Small sums.now }
-    ensures { result ≡ q * most_asked crossing.now sums.now edges }
-{
-    q * most_asked_of(crossing, sums, edges)
+    // The least modulus: the smallest N that would pass 15 and 16.
+    pub fn least_modulus(&self, plan: &Plan, crossing: &[u8; 512], q: u32) -> u32
+        requires { (plan.now.edges ≤ 512) × (q ≤ 16320) }
+        ensures { result ≡ q * most_asked crossing.now self.now.sums plan.now.edges }
+    {
+        q * self.most_asked(plan, crossing)
+    }
 }

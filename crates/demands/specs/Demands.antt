@@ -7,19 +7,19 @@ use Rattle.net.specs.Graph.{Legal, Fireable, Emptiest, Linked, firings}
 use Rattle.net.proofs.Emptiest as net
 use Rattle.plan.specs.declared.Plan.{Plan}
 use Rattle.plan.specs.Value.{graph_of, InProcess, share}
-use Rattle.judge.specs.declared.Answer.TheVariants.{Refused}
+use Rattle.judge.specs.Answer.{Refused}
 use Rattle.judge.specs.Sound.{Upheld}
-use Rattle.reader.specs.declared.ReadPlan.{ReadPlan}
+use Rattle.reader.specs.Answer.{ReadPlan}
 use Rattle.image.specs.Image.{plan_of}
 use Rattle.plan.specs.Order.{FirstFault}
 use Rattle.reader.specs.Faults.{image_order}
 use Rattle.reader.specs.Layout.{Layout}
 use Rattle.reader.specs.Tests.{IsAccepted, verdict, no_plan, read_of}
 use Rattle.reader.specs.Theorems as reader
-use Rattle.machine.specs.declared.State.{State}
-use Rattle.machine.specs.declared.Began.{Began}
-use Rattle.machine.specs.declared.Reply.{Reply}
-use Rattle.machine.specs.declared.Reply.TheVariants.{Fired}
+use Rattle.state.specs.declared.State.{State}
+use Rattle.machine.specs.Answers.{Began}
+use Rattle.machine.specs.Answers.{Reply}
+use Rattle.machine.specs.Answers.{Fired}
 use Rattle.machine.specs.States.{fresh, mark, next_node, StateInShape}
 use Rattle.machine.specs.Calls.{begin_run, marks_left}
 use Rattle.machine.specs.Runs.{Call, turn, IsRefused, Chain}

@@ -3,12 +3,12 @@
 use Rattle.std.specs.Prelude.{◌≡◌, List, ℕ}
 use Rattle.std.proofs.Common.{ap, ◌∙◌, subst₂}
 use Rattle.image.specs.Image.{plan_of}
-use Rattle.reader.specs.declared.ReadPlan.{ReadPlan}
+use Rattle.reader.specs.Answer.{ReadPlan}
 use Rattle.reader.specs.Tests.{IsAccepted, read_of}
 use Rattle.reader.specs.Theorems as reader
-use Rattle.machine.specs.declared.State.{State}
-use Rattle.machine.specs.declared.Began.{Began}
-use Rattle.machine.specs.declared.Reply.{Reply}
+use Rattle.state.specs.declared.State.{State}
+use Rattle.machine.specs.Answers.{Began}
+use Rattle.machine.specs.Answers.{Reply}
 use Rattle.machine.specs.States.{fresh}
 use Rattle.machine.specs.Calls.{begin_run}
 use Rattle.machine.specs.Runs.{Call, Chain}

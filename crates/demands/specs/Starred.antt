@@ -13,8 +13,8 @@ use Rattle.plan.specs.declared.Plan.{Plan}
 use Rattle.plan.specs.Faults.{InShape}
 use Rattle.plan.specs.Value.{base, node_at, share, counter_sum, edge_sum}
 use Rattle.plan.specs.Tests.{stands_at, order_position, ends_past, process_at, home_of, home, seat, synchronises}
-use Rattle.judge.specs.declared.Answer.{Answer}
-use Rattle.judge.specs.declared.Answer.TheVariants.{Accepted, Refused}
+use Rattle.judge.specs.Answer.{Answer}
+use Rattle.judge.specs.Answer.{Accepted, Refused}
 use Rattle.numerals.specs.LittleEndian.{two_bytes, four_bytes}
 use Rattle.image.specs.Offsets.{order_start, node_start, edge_start}
 use Rattle.image.specs.Image.{entry, tables_of, plan_of}
@@ -22,9 +22,9 @@ use Rattle.reader.specs.Plans.{as_two, as_four, all_as_two, image_of, like_P, ed
 use Rattle.reader.specs.Tests.{verdict}
 use Rattle.reader.specs.Starred.{starred_plans}
 use Rattle.reader.specs.Theorems.{accepted_sound}
-use Rattle.machine.specs.declared.State.{State}
-use Rattle.machine.specs.declared.Reply.{Reply}
-use Rattle.machine.specs.declared.Reply.TheVariants as reply
+use Rattle.state.specs.declared.State.{State}
+use Rattle.machine.specs.Answers.{Reply}
+use Rattle.machine.specs.Answers as reply
 use Rattle.formula.specs.Lists.{shares_in, earlier_in, b_in, raised_in}
 use Rattle.refusals.specs.Numbers.{marked_in, open_number, look_number, fire_number}
 use Rattle.machine.specs.States.{next_node, fresh}

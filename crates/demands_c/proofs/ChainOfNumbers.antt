@@ -13,10 +13,10 @@ use Rattle.image.specs.Image.{plan_of}
 use Rattle.reader.specs.Tests.{verdict, read_of}
 use Rattle.reader.specs.Theorems as reader
 use Rattle.reader.specs.Tests.{IsAccepted}
-use Rattle.machine.specs.declared.State.{State}
-use Rattle.machine.specs.declared.Reply.{Reply}
-use Rattle.machine.specs.declared.Reply.TheVariants.{Opened, Found, Wait, Fired, Refused}
-use Rattle.machine.specs.declared.Turned.{Turned}
+use Rattle.state.specs.declared.State.{State}
+use Rattle.machine.specs.Answers.{Reply}
+use Rattle.machine.specs.Answers.{Opened, Found, Wait, Fired, Refused}
+use Rattle.machine.specs.Answers.{Turned}
 use Rattle.machine.specs.States.{mark, next_node, fresh}
 use Rattle.machine.specs.Calls.{begin_run, marks_left}
 use Rattle.machine.specs.Runs.{Call, turn, replies, last_state, fired_by, fired_in, run_firings}

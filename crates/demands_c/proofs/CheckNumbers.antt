@@ -3,7 +3,7 @@
 use Rattle.std.specs.Prelude.{◌≡◌, List, ◌↔◌, ◌≢◌, ℕ, ◌≤◌}
 use Rattle.std.proofs.Common.{sym, ap, ap₂, ◌∙◌, subst, inl, inr, arith}
 use Rattle.plan.specs.Order.{FirstFault}
-use Rattle.judge.specs.declared.Answer.TheVariants.{Refused}
+use Rattle.judge.specs.Answer.{Refused}
 use Rattle.judge.specs.Conditions.{LeastModulus}
 use Rattle.judge.specs.Sound.{Upheld}
 use Rattle.image.specs.Image.{plan_of}

@@ -10,7 +10,7 @@ use Rattle.net.specs.Graph.{Legal, Fireable, Emptiest, Linked, firings}
 use Rattle.plan.specs.declared.Plan.{Plan}
 use Rattle.plan.specs.Value.{graph_of}
 use Rattle.plan.specs.Order.{FirstFault}
-use Rattle.judge.specs.declared.Answer.TheVariants.{Accepted}
+use Rattle.judge.specs.Answer.{Accepted}
 use Rattle.judge.specs.Conditions.{LeastModulus}
 use Rattle.judge.specs.Sound.{Upheld, Sound}
 use Rattle.image.specs.Image.{plan_of}
@@ -18,10 +18,10 @@ use Rattle.reader.specs.Faults.{image_order}
 use Rattle.reader.specs.Layout.{Layout}
 use Rattle.reader.specs.Tests.{verdict, no_plan, read_of}
 use Rattle.reader.specs.Tests.{IsAccepted}
-use Rattle.machine.specs.declared.State.{State}
-use Rattle.machine.specs.declared.Began.{Began}
-use Rattle.machine.specs.declared.Reply.{Reply}
-use Rattle.machine.specs.declared.Turned.{Turned}
+use Rattle.state.specs.declared.State.{State}
+use Rattle.machine.specs.Answers.{Began}
+use Rattle.machine.specs.Answers.{Reply}
+use Rattle.machine.specs.Answers.{Turned}
 use Rattle.machine.specs.States.{mark, next_node, fresh, StateInShape}
 use Rattle.machine.specs.Calls.{begin_run, marks_left, reading_call}
 use Rattle.machine.specs.Runs.{Call}

@@ -6,17 +6,17 @@ use Rattle.std.proofs.Common.{◌∙◌, arith, eq-eqb, ne_eqb}
 use Rattle.std.proofs.Math.Logic.{inl, inr}
 use Rattle.loops.specs.Choice.{if, if_true, if_false}
 use Rattle.plan.specs.declared.Plan.{Plan}
-use Rattle.judge.specs.declared.Answer.TheVariants as answer
+use Rattle.judge.specs.Answer as answer
 use Rattle.image.specs.Image.{plan_of}
 use Rattle.reader.specs.Tests.{verdict, plan_beside, read_of}
 use Rattle.reader.specs.Theorems as reader
-use Rattle.machine.specs.declared.State.{State}
-use Rattle.machine.specs.declared.Reply.{Reply}
-use Rattle.machine.specs.declared.Reply.TheVariants.{Opened, Found, Wait, Fired, Refused}
-use Rattle.machine.specs.declared.Turned.{Turned}
-use Rattle.machine.specs.declared.Level.{Level}
-use Rattle.machine.specs.declared.Level.TheVariants.{Tokens, Unread}
-use Rattle.machine.specs.declared.Began.{Began}
+use Rattle.state.specs.declared.State.{State}
+use Rattle.machine.specs.Answers.{Reply}
+use Rattle.machine.specs.Answers.{Opened, Found, Wait, Fired, Refused}
+use Rattle.machine.specs.Answers.{Turned}
+use Rattle.machine.specs.Answers.{Level}
+use Rattle.machine.specs.Answers.{Tokens, Unread}
+use Rattle.machine.specs.Answers.{Began}
 use Rattle.machine.specs.Calls.{reading_in_shape, reading_call}
 use Rattle.machine.specs.ByTest.{if_either}
 use Rattle.tamsklor.specs.declared.Verdict.{Verdict}

@@ -4,15 +4,15 @@ use Rattle.std.specs.Prelude.{◌≡◌, List, [], ◌∷◌, ◌++◌, ◌↔�
 use Rattle.loops.specs.Choice.{at, if}
 use Rattle.plan.specs.declared.Plan.{Plan}
 use Rattle.plan.specs.Value.{Synchronising}
-use Rattle.judge.specs.declared.Answer.{Answer}
-use Rattle.judge.specs.declared.Answer.TheVariants as answer
-use Rattle.reader.specs.declared.ReadPlan.{ReadPlan}
+use Rattle.judge.specs.Answer.{Answer}
+use Rattle.judge.specs.Answer as answer
+use Rattle.reader.specs.Answer.{ReadPlan}
 use Rattle.reader.specs.Tests.{verdict}
-use Rattle.machine.specs.declared.State.{State}
-use Rattle.machine.specs.declared.Reply.{Reply}
-use Rattle.machine.specs.declared.Reply.TheVariants.{Opened, Found, Wait, Fired, Refused}
-use Rattle.machine.specs.declared.Level.{Level}
-use Rattle.machine.specs.declared.Level.TheVariants.{Tokens, Unread}
+use Rattle.state.specs.declared.State.{State}
+use Rattle.machine.specs.Answers.{Reply}
+use Rattle.machine.specs.Answers.{Opened, Found, Wait, Fired, Refused}
+use Rattle.machine.specs.Answers.{Level}
+use Rattle.machine.specs.Answers.{Tokens, Unread}
 use Rattle.machine.specs.States.{mark, next_node}
 use Rattle.machine.specs.Calls.{marks_left}
 use Rattle.machine.specs.Runs.{Call}

@@ -1,10 +1,20 @@
 -- What tests 5 to 8 of a plan value answer, and what comes of it. Definitions only.
 -- Assumes nothing.
-use Rattle.std.specs.Prelude.{ℕ}
+use Rattle.std.specs.Prelude.{ℕ, Result, Ok, Err}
 use Rattle.plan.specs.declared.Plan.{Plan}
+use Rattle.plan.specs.declared.Refusal.{Refusal}
+use Rattle.plan.specs.Refusals.{number_of}
 use Rattle.plan.specs.Tests.{order_then, tables_then}
-use Rattle.entries.specs.declared.Checked.{Checked}
-use Rattle.entries.specs.declared.Checked.TheVariants.{Passed, Refused}
+
+-- passed, or turned down with a number at a place
+pub data Checked : Type 0 where
+  Passed : Checked
+  Refused : (number place : ℕ) → Checked
+
+-- what a function answers, in 01's numbers
+abbrev pub checked : Result (Unit {0}) Refusal → Checked
+checked (Ok done) = Passed
+checked (Err refusal) = Refused (number_of refusal.test) refusal.place
 
 -- tests 6 to 8
 unfoldable pub order_answer : Plan → Checked

@@ -15,7 +15,7 @@ use Rattle.plan.specs.Order.{NoneOf}
 use Rattle.plan.specs.Chain.{decides_final}
 use Rattle.plan.specs.Faults.{tables_order}
 use Rattle.plan.specs.Decided.{tables_decided}
-use Rattle.entries.specs.declared.Checked.TheVariants.{Passed, Refused}
+use Rattle.entries.specs.Answer.{Passed, Refused}
 use Rattle.entries.specs.Answer.{tables_answer, after_tables}
 
 refused_one : (k p k' p' : ℕ) → Refused k p ≡ Refused k' p' → (k ≡ k') × (p ≡ p')

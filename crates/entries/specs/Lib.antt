@@ -4,3 +4,4 @@ pub mod Answer
 pub mod Laws
 -- the nodes seen so far
 pub mod Seen
+pub mod Apart

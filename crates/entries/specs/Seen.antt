@@ -1,32 +1,46 @@
 -- The firing order tested by a row of the nodes seen so far. Assumes nothing.
-use Rattle.std.specs.Prelude.{ℕ, ◌+◌, ◌<◌, ◌≤◌, ◌≡◌, refl, List, Bool, true, false, eqb, leb, length, set, replicate}
+use Rattle.std.specs.Prelude.{ℕ, ◌+◌, ◌<◌, ◌≤◌, ◌≡◌, refl, List, Bool, true, false, eqb, leb, length, get_or, set, replicate, Some, None, zero, suc}
 use Rattle.std.proofs.Math.Decide.{ℕ_discrete}
-use Rattle.std.proofs.Common.{eq-or-lt_of_le, arith, sym, ap, ◌∙◌, ⊎_elim, le-leb, eq-eqb, ne_eqb, length-set, get_or-set_same, get_or-set_other}
+use Rattle.std.proofs.Common.{eq-or-lt_of_le, arith, sym, ap, ◌∙◌, ⊎_elim, le-leb, lt-ltb, le-ltb, eq-eqb, ne_eqb, length-set, get_or-set_same, get_or-set_other}
 use Rattle.std.proofs.lemmas.Bool.{lt-leb}
 use Rattle.std.proofs.lemmas.List.{length-replicate}
-use Rattle.loops.specs.Choice.{at, if, either, one_if, if_true, if_false}
+use Rattle.loops.specs.Choice.{at, if, either_left, either_right, either_none}
 use Rattle.loops.specs.First.{first, First, first_begin, first_hit, first_miss, first_over}
+use Rattle.loops.specs.Values.{lowest}
 use Rattle.loops.specs.Any.{any, any_some, any_from, any_all, any_none}
-use Rattle.loops.specs.Table.{zeros_at}
 use Rattle.plan.specs.Tests.{same_entry, bad_order}
+
+-- the place of a search that has ended, as what it finds
+found : (f : ℕ → Bool) {n i : ℕ} → i ≡ first f n → i < n → Some i ≡ lowest f n
+unfolding lowest if
+found f {n} {i} e h = rw (← e, lt-ltb i n h)
+
+not_found : (f : ℕ → Bool) {n i : ℕ} → i ≡ first f n → n ≤ i → None ≡ lowest f n
+unfolding lowest if
+not_found f {n} {i} e h = rw (← e, le-ltb i n h)
 
 -- node v stands at a position below i
 unfoldable pub seen_in : List ℕ → ℕ → ℕ → Bool
 seen_in order i v = any (λ j. eqb (at order j) v) i
 
 -- the invariant at position i
-pub record Seeing (order : List ℕ) (nodes i : ℕ) (x : List ℕ) : Type 0 where
+pub record Seeing (order : List ℕ) (nodes i : ℕ) (x : List Bool) : Type 0 where
   pub so_far : First (bad_order order nodes) nodes i
   pub long : length x ≡ 64
-  pub row : (v : ℕ) → at x v ≡ one_if (seen_in order i v)
+  pub row : (v : ℕ) → get_or x v false ≡ seen_in order i v
 
-pub seeing_begin : (order : List ℕ) (nodes : ℕ) → Seeing order nodes 0 (replicate 64 0)
-unfolding seen_in one_if
+none_seen : (n v : ℕ) → get_or (replicate n false) v false ≡ false
+none_seen zero v = refl
+none_seen (suc n) zero = refl
+none_seen (suc n) (suc v) = none_seen n v
+
+pub seeing_begin : (order : List ℕ) (nodes : ℕ) → Seeing order nodes 0 (replicate 64 false)
+unfolding seen_in
 seeing_begin order nodes =
     record {
       so_far = first_begin (bad_order order nodes) nodes;
-      long = length-replicate {A = ℕ} 64 0;
-      row = λ v. zeros_at 64 v ∙ sym (if_false (any (λ j. eqb (at order j) v) 0) 1 0 (any_all (λ j. eqb (at order j) v) 0 (λ k h. absurd (omega arith))));
+      long = length-replicate {A = Bool} 64 false;
+      row = λ v. none_seen 64 v ∙ sym (any_all (λ j. eqb (at order j) v) 0 (λ k h. absurd (omega arith)));
     }
 
 -- a position one further
@@ -47,46 +61,37 @@ next_other order i v d = go (any f i) refl
         any_all f (i + 1)
         (λ k h. ⊎_elim (λ q. ap f q ∙ ne_eqb (at order i) v d) (λ l. any_none f i k e l) (eq-or-lt_of_le (let z : k ≤ i = omega arith in z)))
 
-pub seeing_more : {order : List ℕ} {nodes i v r : ℕ} {x : List ℕ} → Seeing order nodes i x → i < nodes → nodes ≤ 64 → v ≡ at order i → v < nodes
-    → (at x v ≡ 1 → ⊥) → r ≡ 1 → Seeing order nodes (i + 1) (set x v r)
-unfolding bad_order either same_entry seen_in one_if
-seeing_more {order} {nodes} {i} {v} {r} {x} inv h few e l new one =
+pub seeing_more : {order : List ℕ} {nodes i v : ℕ} {x : List Bool} → Seeing order nodes i x → i < nodes → nodes ≤ 64 → v ≡ at order i → v < nodes
+    → get_or x v false ≡ false → Seeing order nodes (i + 1) (set x v true)
+unfolding bad_order same_entry seen_in
+seeing_more {order} {nodes} {i} {v} {x} inv h few e l new =
     record {
-      so_far = first_miss inv.so_far h refl (if_false (leb nodes (at order i)) true _ (lt-leb nodes (at order i) (omega arith)) ∙ fresh);
-      long = length-set x v r ∙ inv.long;
+      so_far =
+          first_miss inv.so_far h refl
+          (either_none (leb nodes (at order i)) _ (lt-leb nodes (at order i) (omega arith)) (sym (inv.row (at order i)) ∙ rw (← e) new));
+      long = length-set x v true ∙ inv.long;
       row = λ w.
           elim (ℕ_discrete v w) [
             | yes q ↦
-                ap (at (set x v r)) (sym q) ∙ get_or-set_same x v r 0 (omega (arith, inv.long)) ∙ one
-                ∙ sym (if_true (seen_in order (i + 1) w) 1 0 (next_same order i w (sym e ∙ q)))
-            | no q ↦
-                get_or-set_other x v w r 0 (λ z. q (sym z)) ∙ inv.row w ∙ ap (λ b. if b 1 0) (sym (next_other order i w (λ z. q (e ∙ z))))
+                ap (λ k. get_or (set x v true) k false) (sym q) ∙ get_or-set_same x v true false (omega (arith, inv.long))
+                ∙ sym (next_same order i w (sym e ∙ q))
+            | no q ↦ get_or-set_other x v w true false (λ z. q (sym z)) ∙ inv.row w ∙ sym (next_other order i w (λ z. q (e ∙ z)))
           ];
     }
-  where
-    fresh : seen_in order i (at order i) ≡ false
-    fresh = go (seen_in order i (at order i)) refl
-      where
-        go : (b : Bool) → seen_in order i (at order i) ≡ b → b ≡ false
-        go true q = absurd (new (ap (at x) e ∙ inv.row (at order i) ∙ if_true _ 1 0 q))
-        go false q = refl
 
 -- an entry that is no node, and one that was seen
-pub seeing_high : {order : List ℕ} {nodes i v : ℕ} {x : List ℕ} → Seeing order nodes i x → i < nodes → v ≡ at order i → nodes ≤ v
-    → i ≡ first (bad_order order nodes) nodes
-unfolding bad_order either
-seeing_high {order} {nodes} {i} inv h e l =
-    first_hit inv.so_far h refl (if_true (leb nodes (at order i)) true _ (le-leb nodes (at order i) (omega arith)))
+pub seeing_high : {order : List ℕ} {nodes i : ℕ} {x : List Bool} → Seeing order nodes i x → i < nodes → nodes ≤ at order i → Some i ≡ lowest (bad_order order nodes) nodes
+unfolding bad_order
+seeing_high {order} {nodes} {i} inv h l = found _ (first_hit inv.so_far h refl (either_left (leb nodes (at order i)) _ (le-leb nodes (at order i) l))) h
 
-pub seeing_seen : {order : List ℕ} {nodes i v : ℕ} {x : List ℕ} → Seeing order nodes i x → i < nodes → v ≡ at order i → v < nodes → at x v ≡ 1
-    → i ≡ first (bad_order order nodes) nodes
-unfolding bad_order either same_entry seen_in one_if
-seeing_seen {order} {nodes} {i} {v} {x} inv h e l old =
-    first_hit inv.so_far h refl (if_false (leb nodes (at order i)) true _ (lt-leb nodes (at order i) (omega arith)) ∙ go (seen_in order i (at order i)) refl)
-  where
-    go : (b : Bool) → seen_in order i (at order i) ≡ b → b ≡ true
-    go true q = refl
-    go false q = absurd (let z : 1 ≡ 0 = sym old ∙ ap (at x) e ∙ inv.row (at order i) ∙ if_false _ 1 0 q in omega arith)
+pub seeing_seen : {order : List ℕ} {nodes i : ℕ} {x : List Bool} → Seeing order nodes i x → i < nodes → get_or x (at order i) false ≡ true
+    → Some i ≡ lowest (bad_order order nodes) nodes
+unfolding bad_order same_entry seen_in
+seeing_seen {order} {nodes} {i} inv h old =
+    found _ (first_hit inv.so_far h refl (either_right (leb nodes (at order i)) _ (sym (inv.row (at order i)) ∙ old))) h
 
-pub seeing_over : {order : List ℕ} {nodes i : ℕ} {x : List ℕ} → Seeing order nodes i x → nodes ≤ i → i ≡ first (bad_order order nodes) nodes
-seeing_over inv h = first_over inv.so_far h
+pub seeing_over : {order : List ℕ} {nodes i : ℕ} {x : List Bool} → Seeing order nodes i x → nodes ≤ i → None ≡ lowest (bad_order order nodes) nodes
+seeing_over inv h = not_found _ (first_over inv.so_far h) h
+
+-- what answers the goals of such a pass
+pub ruleset seeing = (seeing_begin, seeing_more, seeing_high, seeing_seen, seeing_over)

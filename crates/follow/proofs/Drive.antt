@@ -16,8 +16,8 @@ use Rattle.net.specs.Counts.{same_or_not}
 use Rattle.plan.specs.declared.Plan.{Plan}
 use Rattle.plan.specs.Value.{graph_of, node_at}
 use Rattle.judge.specs.Sound.{Sound}
-use Rattle.machine.specs.declared.State.{State}
-use Rattle.machine.specs.declared.Reply.TheVariants.{Opened, Found, Fired}
+use Rattle.state.specs.declared.State.{State}
+use Rattle.machine.specs.Answers.{Opened, Found, Fired}
 use Rattle.machine.specs.States.{mark, next_node}
 use Rattle.machine.specs.Calls.{edge_found, marks_left, opened_state, with_marks, found_state, do_look, do_fire}
 use Rattle.machine.specs.Runs.{turn, replies, last_state}

@@ -8,8 +8,8 @@ use Rattle.net.specs.Graph.{Fireable}
 use Rattle.plan.specs.declared.Plan.{Plan}
 use Rattle.plan.specs.Value.{graph_of}
 use Rattle.judge.specs.Sound.{Sound}
-use Rattle.machine.specs.declared.State.{State}
-use Rattle.machine.specs.declared.Reply.TheVariants.{Opened, Fired}
+use Rattle.state.specs.declared.State.{State}
+use Rattle.machine.specs.Answers.{Opened, Fired}
 use Rattle.machine.specs.States.{mark, next_node}
 use Rattle.machine.specs.Runs.{Call, last_state, fired_by, fired_in, run_firings}
 use Rattle.machine.specs.ByTest.{if_either}

@@ -9,7 +9,7 @@ use Rattle.net.specs.Graph.{firings}
 use Rattle.net.specs.Counts.{one_if_same_self}
 use Rattle.plan.specs.declared.Plan.{Plan}
 use Rattle.plan.specs.Faults.{CountsFit}
-use Rattle.machine.specs.declared.State.{State}
+use Rattle.state.specs.declared.State.{State}
 use Rattle.machine.specs.Runs.{last_state}
 use Rattle.machine.specs.ByTest.{if_either}
 use Rattle.machine.specs.KeptByCalls.{Kept}

@@ -7,9 +7,9 @@ use Rattle.std.proofs.Math.Decide.{dec_lt}
 use Rattle.loops.specs.Choice.{true_false}
 use Rattle.plan.specs.declared.Plan.{Plan}
 use Rattle.judge.specs.Sound.{Sound}
-use Rattle.machine.specs.declared.State.{State}
-use Rattle.machine.specs.declared.Reply.TheVariants.{Found, Wait}
-use Rattle.machine.specs.declared.Turned.{Turned}
+use Rattle.state.specs.declared.State.{State}
+use Rattle.machine.specs.Answers.{Found, Wait}
+use Rattle.machine.specs.Answers.{Turned}
 use Rattle.machine.specs.States.{mark}
 use Rattle.machine.specs.Calls.{edge_found, marks_left, do_look}
 use Rattle.machine.specs.Runs.{Call, turn}

@@ -11,7 +11,7 @@ use Rattle.net.proofs.Lead as lead
 use Rattle.plan.specs.declared.Plan.{Plan}
 use Rattle.plan.specs.Value.{graph_of}
 use Rattle.judge.specs.Sound.{Sound}
-use Rattle.machine.specs.declared.State.{State}
+use Rattle.state.specs.declared.State.{State}
 use Rattle.machine.specs.States.{next_node, fresh}
 use Rattle.machine.specs.Runs.{Call, replies, last_state, fired_in, run_firings}
 use Rattle.follow.specs.Bounds.{AllInBounds}

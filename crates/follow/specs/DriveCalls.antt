@@ -4,9 +4,9 @@ use Rattle.std.specs.Prelude.{◌≡◌, List, [], ◌∷◌, ◌++◌, ℕ, ◌
 use Rattle.loops.specs.Choice.{at, if}
 use Rattle.net.specs.Graph.{firings}
 use Rattle.plan.specs.declared.Plan.{Plan}
-use Rattle.machine.specs.declared.State.{State}
-use Rattle.machine.specs.declared.Reply.{Reply}
-use Rattle.machine.specs.declared.Reply.TheVariants.{Opened, Found, Wait, Fired, Refused}
+use Rattle.state.specs.declared.State.{State}
+use Rattle.machine.specs.Answers.{Reply}
+use Rattle.machine.specs.Answers.{Opened, Found, Wait, Fired, Refused}
 use Rattle.machine.specs.States.{mark}
 use Rattle.machine.specs.Runs.{Call, replies, last_state, run_firings}
 use Rattle.follow.specs.Bounds.{AllInBounds}

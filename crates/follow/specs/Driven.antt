@@ -11,8 +11,8 @@ use Rattle.net.specs.ProcessEdges.{next_only}
 use Rattle.plan.specs.declared.Plan.{Plan}
 use Rattle.plan.specs.Value.{graph_of, node_at}
 use Rattle.judge.specs.Sound.{Sound}
-use Rattle.machine.specs.declared.State.{State}
-use Rattle.machine.specs.declared.Reply.{Reply}
+use Rattle.state.specs.declared.State.{State}
+use Rattle.machine.specs.Answers.{Reply}
 use Rattle.machine.specs.States.{next_node}
 use Rattle.follow.specs.PlanSeats.{some_node, shaped, every_cycle_holds, seats}
 use Rattle.follow.specs.Meaning.{tokens_after}

@@ -14,7 +14,7 @@ use Rattle.plan.specs.declared.Plan.{Plan}
 use Rattle.plan.specs.Value.{graph_of, node_at, Synchronising, share, counter_sum}
 use Rattle.plan.specs.Tests.{home, seat}
 use Rattle.judge.specs.Sound.{Sound}
-use Rattle.machine.specs.declared.State.{State}
+use Rattle.state.specs.declared.State.{State}
 use Rattle.formula.specs.Lists.{shares_in, earlier_in, b_in}
 use Rattle.machine.specs.Calls.{b_of, edge_found}
 use Rattle.follow.specs.Beside.{b, finds_edge, look_exact}

@@ -10,8 +10,8 @@ use Rattle.net.proofs.ProcessEdges.{chord_holds}
 use Rattle.plan.specs.declared.Plan.{Plan}
 use Rattle.plan.specs.Value.{graph_of, InProcess}
 use Rattle.judge.specs.Sound.{Sound}
-use Rattle.machine.specs.declared.State.{State}
-use Rattle.machine.specs.declared.Reply.TheVariants.{Fired}
+use Rattle.state.specs.declared.State.{State}
+use Rattle.machine.specs.Answers.{Fired}
 use Rattle.machine.specs.States.{next_node, Sized, StateInShape}
 use Rattle.machine.specs.Calls.{marks_left}
 use Rattle.machine.specs.Runs.{Call, turn}

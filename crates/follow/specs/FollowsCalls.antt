@@ -15,7 +15,7 @@ use Rattle.plan.specs.declared.Plan.{Plan}
 use Rattle.plan.specs.Value.{graph_of}
 use Rattle.judge.specs.Sound.{Sound}
 use Rattle.formula.specs.Lists.{raised_in}
-use Rattle.machine.specs.declared.State.{State}
+use Rattle.state.specs.declared.State.{State}
 use Rattle.machine.specs.States.{mark, next_node}
 use Rattle.machine.specs.Calls.{edge_found, to_see, marks_left, opened_state, with_marks, found_state, next_position, fired_state}
 use Rattle.machine.specs.ByTest.{one_if_true, sum_zero}

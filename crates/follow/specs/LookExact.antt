@@ -9,7 +9,7 @@ use Rattle.net.specs.Tables.{graph_of_tables}
 use Rattle.plan.specs.declared.Plan.{Plan}
 use Rattle.plan.specs.Value.{graph_of}
 use Rattle.judge.specs.Sound.{Sound}
-use Rattle.machine.specs.declared.State.{State}
+use Rattle.state.specs.declared.State.{State}
 use Rattle.machine.specs.States.{next_node}
 use Rattle.follow.specs.PlanSeats.{seats}
 use Rattle.follow.specs.StandsFor.{Follows, next_node_is}

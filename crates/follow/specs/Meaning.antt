@@ -6,10 +6,10 @@ use Rattle.net.specs.Graph.{Marking, firings, after, Fireable, Legal}
 use Rattle.net.specs.Processes.{before}
 use Rattle.plan.specs.declared.Plan.{Plan}
 use Rattle.plan.specs.Value.{graph_of, Sits, Synchronising, share}
-use Rattle.machine.specs.declared.State.{State}
-use Rattle.machine.specs.declared.Reply.{Reply}
-use Rattle.machine.specs.declared.Reply.TheVariants.{Found, Wait}
-use Rattle.machine.specs.declared.Turned.{Turned}
+use Rattle.state.specs.declared.State.{State}
+use Rattle.machine.specs.Answers.{Reply}
+use Rattle.machine.specs.Answers.{Found, Wait}
+use Rattle.machine.specs.Answers.{Turned}
 use Rattle.machine.specs.States.{mark, next_node, fresh, StateInShape}
 use Rattle.machine.specs.Calls.{marks_left}
 use Rattle.machine.specs.Runs.{Call, replies, last_state, run_firings}

@@ -12,7 +12,7 @@ use Rattle.net.specs.Tables.{graph_of_tables}
 use Rattle.plan.specs.declared.Plan.{Plan}
 use Rattle.plan.specs.Value.{graph_of, node_at, Synchronising, share}
 use Rattle.judge.specs.Sound.{Sound}
-use Rattle.machine.specs.declared.State.{State}
+use Rattle.state.specs.declared.State.{State}
 use Rattle.machine.specs.States.{mark, next_node}
 use Rattle.machine.specs.ShapeKept.{kept_exactly}
 use Rattle.follow.specs.Counters.{added}

@@ -12,7 +12,7 @@ use Rattle.net.specs.Seating.{seats_of}
 use Rattle.plan.specs.declared.Plan.{Plan}
 use Rattle.plan.specs.Value.{graph_of, node_at}
 use Rattle.judge.specs.Sound.{Sound}
-use Rattle.machine.specs.declared.State.{State}
+use Rattle.state.specs.declared.State.{State}
 use Rattle.machine.specs.States.{mark, next_node, fresh}
 use Rattle.machine.specs.FreshState.{fresh_position, fresh_opened, fresh_counter}
 use Rattle.machine.specs.KeptByCalls.{Kept, fresh_kept}

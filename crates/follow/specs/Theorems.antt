@@ -15,9 +15,9 @@ use Rattle.plan.specs.Value.{graph_of, InProcess, share}
 use Rattle.plan.specs.Faults.{InShape}
 use Rattle.plan.specs.Formed.{formed, shaped}
 use Rattle.judge.specs.Sound.{Sound}
-use Rattle.machine.specs.declared.State.{State}
-use Rattle.machine.specs.declared.Reply.{Reply}
-use Rattle.machine.specs.declared.Reply.TheVariants.{Fired, Refused}
+use Rattle.state.specs.declared.State.{State}
+use Rattle.machine.specs.Answers.{Reply}
+use Rattle.machine.specs.Answers.{Fired, Refused}
 use Rattle.machine.specs.States.{next_node, fresh, Sized, StateInShape}
 use Rattle.machine.specs.Calls.{marks_left, both_fit}
 use Rattle.machine.specs.Runs.{Call, turn, replies, Chain}

@@ -12,7 +12,7 @@ use Rattle.plan.specs.Chain.{decides_lowest, decides_if, decides_final}
 use Rattle.plan.specs.Faults.{tables_order}
 use Rattle.plan.specs.Decided.{tables_decided}
 use Rattle.plan.specs.Tables.{Tabled}
-use Rattle.judge.specs.declared.Answer.TheVariants.{Accepted}
+use Rattle.judge.specs.Answer.{Accepted}
 use Rattle.judge.specs.Faults.{conditions_order, order_from_5, plan_order}
 use Rattle.plan.specs.Tests.{refuse_if, refuse_lowest}
 use Rattle.judge.specs.Tests.{bad_order_position, bad_counter, bad_increment, bad_sum, on_free_cycle, no_way_back, not_multiple, not_above_bound, least_modulus, from_15_in, from_13_in, from_11_in, from_9, from_5, judged}

@@ -9,8 +9,8 @@ use Rattle.plan.specs.Tables.{Tabled}
 use Rattle.plan.specs.Formed.{in_shape}
 use Rattle.plan.specs.Chain.{first_number}
 use Rattle.plan.specs.Unique.{one_answer}
-use Rattle.judge.specs.declared.Answer.{Answer}
-use Rattle.judge.specs.declared.Answer.TheVariants.{Accepted, Refused}
+use Rattle.judge.specs.Answer.{Answer}
+use Rattle.judge.specs.Answer.{Accepted, Refused}
 use Rattle.judge.specs.Conditions.{LeastModulus}
 use Rattle.judge.specs.Sound.{Upheld, Sound}
 use Rattle.judge.specs.Faults.{plan_order}

@@ -8,8 +8,8 @@ use Rattle.plan.specs.Faults.{tables_order}
 use Rattle.plan.specs.Order.{Numbered, NoneOf}
 use Rattle.plan.specs.Chain.{EachNumber, Outcome}
 use Rattle.plan.specs.Faults.{tables_order}
-use Rattle.judge.specs.declared.Answer.{Answer}
-use Rattle.judge.specs.declared.Answer.TheVariants.{Accepted, Refused}
+use Rattle.judge.specs.Answer.{Answer}
+use Rattle.judge.specs.Answer.{Accepted, Refused}
 use Rattle.judge.specs.Faults.{conditions_order, order_from_5, plan_order}
 use Rattle.plan.specs.Tests.{order_then, tables_then}
 use Rattle.judge.specs.Tests.{least_modulus, from_9, from_5}

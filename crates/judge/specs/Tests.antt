@@ -10,8 +10,8 @@ use Rattle.plan.specs.Tests.{home_table}
 use Rattle.seats.specs.Crossing.{crossing_table}
 use Rattle.rounds.specs.Lent.{lacks_edge, bad_counter_in, bad_increment_in, bad_sum_in}
 use Rattle.cycles.specs.Lent.{loop_sum_in, on_free_cycle_in, no_way_back_in, not_above_in, most_asked}
-use Rattle.judge.specs.declared.Answer.{Answer}
-use Rattle.judge.specs.declared.Answer.TheVariants.{Accepted, Refused}
+use Rattle.judge.specs.Answer.{Answer}
+use Rattle.judge.specs.Answer.{Accepted, Refused}
 
 -- the loop sums of edges as a table, 0 past the count
 abbrev pub sums_of : (source destination tokens : List ℕ) (edges : ℕ) → List ℕ

@@ -1,10 +1,10 @@
 -- The lines of the text that `planrun` prints (01, "The program"), to the last byte. Definitions only.
 -- Assumes nothing.
 use Rattle.std.specs.Prelude.{List, [], ◌++◌, ℕ}
-use Rattle.judge.specs.declared.Answer.{Answer}
-use Rattle.judge.specs.declared.Answer.TheVariants as answers
-use Rattle.machine.specs.declared.Reply.{Reply}
-use Rattle.machine.specs.declared.Reply.TheVariants as replied
+use Rattle.judge.specs.Answer.{Answer}
+use Rattle.judge.specs.Answer as answers
+use Rattle.machine.specs.Answers.{Reply}
+use Rattle.machine.specs.Answers as replied
 use Rattle.numerals.specs.Decimal.{decimal, number_then}
 use Rattle.lines.specs.Words.{blank, newline, plan_word, refused_word, opened_word, found_word, wait_word, fired_word, turned_down_word}
 

@@ -8,3 +8,4 @@ pub mod Sum
 pub mod Fold
 pub mod Table
 pub mod Row
+pub mod Chains

@@ -1,6 +1,6 @@
 -- What loops compute, and the choices and lists that they are made of. Definitions only.
 -- Assumes nothing.
-use Rattle.std.specs.Prelude.{List, [], ◌∷◌, ◌++◌, Bool, true, false, ℕ, zero, suc, ◌+◌, ◌-◌, get_or, set, replicate}
+use Rattle.std.specs.Prelude.{List, [], ◌∷◌, ◌++◌, Bool, true, false, ℕ, zero, suc, ◌+◌, ◌-◌, get_or, set, replicate, Option, Some, None, ltb}
 
 -- what stands at a place of a list, and 0 past its end
 abbrev pub at : List ℕ → ℕ → ℕ
@@ -31,6 +31,10 @@ first_of f i (suc m) = if (f i) i (first_of f (suc i) m)
 -- the lowest number below n at which f is true, or n
 unfoldable pub first : (ℕ → Bool) → ℕ → ℕ
 first f n = first_of f 0 n
+
+-- the same as a find: nothing where there is none
+unfoldable pub lowest : (ℕ → Bool) → ℕ → Option ℕ
+lowest f n = if (ltb (first f n) n) (Some (first f n)) None
 
 -- is f true at one of i, i + 1, .. of m numbers
 unfoldable pub any_of : (ℕ → Bool) → ℕ → ℕ → Bool

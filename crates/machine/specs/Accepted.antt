@@ -11,9 +11,9 @@ use Rattle.plan.specs.Faults.{InShape}
 use Rattle.plan.specs.Tables.{Tabled}
 use Rattle.plan.specs.Formed.{formed}
 use Rattle.plan.specs.Seating.{node_at_lt}
-use Rattle.machine.specs.declared.State.{State}
-use Rattle.machine.specs.declared.Reply.TheVariants.{Opened, Found, Wait, Fired, Refused}
-use Rattle.machine.specs.declared.Turned.{Turned}
+use Rattle.state.specs.declared.State.{State}
+use Rattle.machine.specs.Answers.{Opened, Found, Wait, Fired, Refused}
+use Rattle.machine.specs.Answers.{Turned}
 use Rattle.machine.specs.States.{next_node, Sized, StateInShape}
 use Rattle.machine.specs.Calls.{edge_found, do_open, do_look, do_fire, refused, both_fit, step_in_shape, step_call}
 use Rattle.machine.specs.Runs.{Call, turn}

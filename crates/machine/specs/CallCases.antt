@@ -5,8 +5,8 @@ use Rattle.std.proofs.Common.{arith, eqb-true, eq-eqb}
 use Rattle.loops.specs.Choice.{at, if, if_true}
 use Rattle.plan.specs.declared.Plan.{Plan}
 use Rattle.refusals.specs.Known.{open_known, open_25, look_known, look_25, fire_known, fire_25}
-use Rattle.machine.specs.declared.State.{State}
-use Rattle.machine.specs.declared.Turned.{Turned}
+use Rattle.state.specs.declared.State.{State}
+use Rattle.machine.specs.Answers.{Turned}
 use Rattle.machine.specs.States.{mark}
 use Rattle.machine.specs.Calls.{marks_left, do_open, do_look, do_fire, refused, unless_refused, open_in_shape, look_in_shape, fire_in_shape, both_fit, step_in_shape, step_call}
 use Rattle.machine.specs.Runs.{Call, turn}

@@ -7,7 +7,7 @@ use Rattle.std.proofs.Math.Seq.{get_or-set_same, get_or-set_other}
 use Rattle.loops.specs.Choice.{at, one_if}
 use Rattle.plan.specs.declared.Plan.{Plan}
 use Rattle.formula.specs.Lists.{raised_in}
-use Rattle.machine.specs.declared.State.{State}
+use Rattle.state.specs.declared.State.{State}
 use Rattle.machine.specs.States.{mark, next_node, Sized}
 use Rattle.machine.specs.Calls.{raised, to_see, opened_state, with_marks, found_state, next_position, fired_state}
 use Rattle.machine.specs.Marks.{open_mark, open_mark_other, found_mark, found_mark_other}

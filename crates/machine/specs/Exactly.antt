@@ -9,9 +9,9 @@ use Rattle.loops.specs.Sum.{sum}
 use Rattle.plan.specs.declared.Plan.{Plan}
 use Rattle.plan.specs.Faults.{InShape}
 use Rattle.plan.specs.Formed.{formed}
-use Rattle.machine.specs.declared.State.{State}
-use Rattle.machine.specs.declared.Reply.TheVariants.{Opened, Found, Wait, Fired}
-use Rattle.machine.specs.declared.Turned.{Turned}
+use Rattle.state.specs.declared.State.{State}
+use Rattle.machine.specs.Answers.{Opened, Found, Wait, Fired}
+use Rattle.machine.specs.Answers.{Turned}
 use Rattle.machine.specs.States.{mark, next_node, Sized, StateInShape}
 use Rattle.machine.specs.Calls.{edge_found, to_see, marks_left, with_marks, do_look, do_fire, refused, both_fit}
 use Rattle.machine.specs.Runs.{Call, turn}

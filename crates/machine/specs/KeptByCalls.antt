@@ -1,6 +1,6 @@
 -- What each call that is not refused makes of a state in shape: again a state in shape.
 -- Assumes nothing.
-use Rattle.std.specs.Prelude.{◌≡◌, ℕ, ◌<◌, ◌≤◌, ◌≢◌, List, length, set, slice_set}
+use Rattle.std.specs.Prelude.{◌≡◌, ℕ, ◌<◌, ◌≤◌, ◌≢◌, List, length, slice_set}
 use Rattle.std.proofs.Math.Path.{refl, ap, subst}
 use Rattle.std.proofs.Common.{sym, ◌∙◌, arith, mod-lt, get_or-set_same, get_or-set_other}
 use Rattle.std.proofs.Math.Decide.{ℕ_discrete, dec_lt}
@@ -12,7 +12,7 @@ use Rattle.plan.specs.Tables.{Tabled}
 use Rattle.plan.specs.Formed.{formed}
 use Rattle.plan.specs.Seating.{node_at_lt}
 use Rattle.formula.specs.Lists.{raised_in}
-use Rattle.machine.specs.declared.State.{State}
+use Rattle.state.specs.declared.State.{State}
 use Rattle.machine.specs.States.{mark, next_node, fresh, Sized}
 use Rattle.machine.specs.Calls.{to_see, marks_left, opened_state, with_marks, found_state, next_position, fired_state}
 use Rattle.machine.specs.ByTest.{one_if_some, sum_zero}

@@ -1,4 +1,5 @@
--- what a reader must believe: the state, the calls, their runs
+-- what a reader must believe: the answers, the state, the calls, their runs
+pub mod Answers
 pub mod States
 pub mod Calls
 pub mod Runs
@@ -27,8 +28,9 @@ pub mod Accepted
 -- entries past the counts are not used; each promise leaves room for one answer
 pub mod Agreeing
 pub mod Unique
--- what the code needs: indices in range; rows, what a function hands to another, and a call over lent lists
+-- what the code needs: indices in range; rows; an edge's two ends; what it answers and leaves
 pub mod InRange
 pub mod Same
 pub mod Handed
 pub mod Stepping
+pub mod Apart

@@ -7,7 +7,7 @@ use Rattle.loops.specs.Choice.{one_if}
 use Rattle.loops.specs.Row.{stored_at, stored_other}
 use Rattle.plan.specs.declared.Plan.{Plan}
 use Rattle.rows.specs.Lists.{spot}
-use Rattle.machine.specs.declared.State.{State}
+use Rattle.state.specs.declared.State.{State}
 use Rattle.machine.specs.States.{mark, next_node, Sized}
 use Rattle.machine.specs.Calls.{to_see, opened_state, with_marks, found_state}
 

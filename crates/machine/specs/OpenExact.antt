@@ -13,9 +13,9 @@ use Rattle.plan.specs.Value.{Synchronising}
 use Rattle.plan.specs.Faults.{InShape}
 use Rattle.plan.specs.Tables.{Tabled}
 use Rattle.plan.specs.Formed.{formed}
-use Rattle.machine.specs.declared.State.{State}
-use Rattle.machine.specs.declared.Reply.TheVariants.{Opened}
-use Rattle.machine.specs.declared.Turned.{Turned}
+use Rattle.state.specs.declared.State.{State}
+use Rattle.machine.specs.Answers.{Opened}
+use Rattle.machine.specs.Answers.{Turned}
 use Rattle.machine.specs.States.{mark, next_node}
 use Rattle.machine.specs.Calls.{to_see, marks_left, opened_state, do_open, open_in_shape}
 use Rattle.machine.specs.Runs.{Call, turn}

@@ -6,9 +6,9 @@ use Rattle.loops.specs.Choice.{at, true_false}
 use Rattle.plan.specs.declared.Plan.{Plan}
 use Rattle.plan.specs.Faults.{InShape}
 use Rattle.plan.specs.Formed.{formed}
-use Rattle.machine.specs.declared.State.{State}
-use Rattle.machine.specs.declared.Reply.TheVariants.{Refused}
-use Rattle.machine.specs.declared.Turned.{Turned}
+use Rattle.state.specs.declared.State.{State}
+use Rattle.machine.specs.Answers.{Refused}
+use Rattle.machine.specs.Answers.{Turned}
 use Rattle.machine.specs.States.{fresh, Sized, StateInShape}
 use Rattle.machine.specs.Calls.{edge_found, marks_left, do_open, do_look, do_fire, refused, both_fit, step_in_shape, step_call}
 use Rattle.machine.specs.Runs.{Call, turn, last_state}

@@ -6,7 +6,7 @@ use Rattle.loops.specs.Choice.{at}
 use Rattle.plan.specs.declared.Plan.{Plan}
 use Rattle.plan.specs.Value.{Synchronising}
 use Rattle.plan.specs.Faults.{CountsFit}
-use Rattle.machine.specs.declared.State.{State}
+use Rattle.state.specs.declared.State.{State}
 use Rattle.machine.specs.States.{mark, next_node, StateInShape}
 
 -- an entry in range: below its limit where it is known, 0 past the count

@@ -15,7 +15,7 @@ use Rattle.plan.specs.Tests.{synchronises, plan_fits}
 use Rattle.plan.specs.Formed.{formed, past, fits_exactly}
 use Rattle.plan.specs.Seating.{synchronises_exactly}
 use Rattle.rows.specs.Lists.{row_above}
-use Rattle.machine.specs.declared.State.{State}
+use Rattle.state.specs.declared.State.{State}
 use Rattle.machine.specs.States.{mark, next_node, StateInShape}
 use Rattle.machine.specs.Calls.{to_see, mark_allowed, row_excess, position_bad, opened_bad, counter_bad, state_fits, both_fit}
 use Rattle.ranges.specs.Range.{out_of_range}

@@ -8,7 +8,7 @@ use Rattle.loops.specs.Row.{stored_length}
 use Rattle.plan.specs.declared.Plan.{Plan}
 use Rattle.formula.specs.Lists.{raised_in}
 use Rattle.rows.specs.Lists.{spot}
-use Rattle.machine.specs.declared.State.{State}
+use Rattle.state.specs.declared.State.{State}
 use Rattle.machine.specs.States.{next_node, Sized}
 use Rattle.machine.specs.Calls.{to_see, opened_state, with_marks, found_state, fired_state}
 

@@ -1,11 +1,12 @@
 -- The run's state and its shape (01, "Running a plan"). Definitions only.
 -- Assumes nothing.
-use Rattle.std.specs.Prelude.{◌≡◌, ℕ, ◌<◌, ◌≤◌, ◌≢◌, List, length, replicate}
+use Rattle.std.specs.Prelude.{◌≡◌, ℕ, ◌<◌, ◌≤◌, ◌≢◌, List, length}
 use Rattle.loops.specs.Choice.{at}
 use Rattle.plan.specs.declared.Plan.{Plan}
 use Rattle.plan.specs.Value.{Synchronising}
 use Rattle.rows.specs.Lists.{spot, next_in}
-use Rattle.machine.specs.declared.State.{State}
+use Rattle.state.specs.declared.State.{State}
+unfoldable pub use Rattle.state.specs.Fresh.{fresh}
 
 -- the state of a run's lists and a turn number
 abbrev pub state_with : (positions opened marks counters : List ℕ) (turn : ℕ) → State
@@ -18,10 +19,6 @@ mark st p e = at st.marks (spot p e)
 -- the next node of process p
 unfoldable pub next_node : Plan → State → ℕ → ℕ
 next_node pl st p = next_in pl.order pl.lengths st.positions p
-
--- "Fresh: first positions, all closed, nothing marked, all counters 0, turn 0."
-unfoldable pub fresh : State
-fresh = record { positions = replicate 64 0; opened = replicate 64 0; marks = replicate 32768 0; counters = replicate 64 0; turn = 0 }
 
 -- a state as the program holds it: the lengths of its lists
 pub record Sized (st : State) : Type 0 where

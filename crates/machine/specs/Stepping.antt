@@ -1,38 +1,72 @@
--- What a call leaves in the lists it is lent is what `Calls` says: by the number that it is turned down with, and by its code.
+-- What the code answers and leaves is what `Calls` says: the test of a state, each call, a call by its number and its code, the reading.
 -- Assumes nothing.
-use Rattle.std.specs.Prelude.{◌≡◌, ℕ, suc, ◌+◌, ◌*◌, ◌<◌, ◌≤◌, Bool, true, false, ◌≢◌, List, ◌==◌, slice_set}
-use Rattle.std.proofs.Math.Path.{refl, sym, ap}
-use Rattle.std.proofs.Common.{◌∙◌, lt-ltb, le-ltb, eq-eqb, ne_eqb}
+use Rattle.std.specs.Prelude.{◌≡◌, ℕ, suc, ◌+◌, ◌*◌, ◌<◌, ◌≤◌, Bool, true, false, ◌≢◌, List, ◌==◌, slice_set, Result, Ok, Err}
+use Rattle.std.proofs.Math.Path.{refl, sym, ap, subst}
+use Rattle.std.proofs.Common.{◌∙◌, lt-ltb, le-ltb, le-leb, eq-eqb, ne_eqb}
 use native.Mathlib.Omega.{arith}
-use Rattle.std.proofs.Math.Decide.{ℕ_discrete}
 use Rattle.std.proofs.lemmas.Bool.{lt-leb}
 use Rattle.loops.specs.Choice.{at, if, one_if, if_true, if_false, if_yes, if_no, not_true, not-false}
 use Rattle.loops.specs.Sum.{sum, sum_same}
 use Rattle.plan.specs.declared.Plan.{Plan}
 use Rattle.plan.specs.Value.{edge_sum}
 use Rattle.plan.specs.Tests.{synchronises, plan_fits}
-use Rattle.counting.specs.Modular.{finds, reading_printed}
+use Rattle.counting.specs.Modular.{reading_printed}
 use Rattle.plan.specs.Faults.{InShape}
 use Rattle.plan.specs.Formed.{formed}
-use Rattle.formula.specs.Lists.{raised_in, b_in}
+use Rattle.formula.specs.Lists.{raised_in}
+use Rattle.ranges.specs.Range.{out_of_range}
 use Rattle.rows.specs.Lists.{spot, next_in, row_left, with_row}
 use Rattle.refusals.specs.Numbers.{open_number, look_number, fire_number, call_number}
+use Rattle.refusals.specs.declared.Reason.{Reason}
+use Rattle.refusals.specs.declared.Reason.TheVariants.{UnknownProcess, AlreadyOpen, Closed, NotMarked, MarksLeft, OutOfShape, UnknownCode, NotSynchronising}
+use Rattle.refusals.specs.declared.Call.{Call}
+use Rattle.refusals.specs.declared.Call.TheVariants.{Open, Look, Fire}
+use Rattle.refusals.specs.declared.Request.{Request}
+use Rattle.refusals.specs.Reasons.{number_of, Allows}
 use Rattle.refusals.specs.Known.{open_known, look_known, fire_known}
 use Rattle.seats.specs.Crossing.{crossing_table}
 use Rattle.seats.specs.Laws.{crossing_at}
-use Rattle.machine.specs.declared.State.{State}
-use Rattle.machine.specs.declared.Turned.{Turned}
-use Rattle.machine.specs.declared.Reply.{Reply}
-use Rattle.machine.specs.declared.Reply.TheVariants.{Opened, Found, Wait, Fired, Refused}
-use Rattle.machine.specs.declared.Began.{Began}
-use Rattle.machine.specs.declared.Level.TheVariants.{Tokens, Unread}
+use Rattle.state.specs.declared.State.{State}
+use Rattle.machine.specs.Answers.{Turned, Began, Level, Opened, Found, Wait, Fired, Refused, Tokens, Unread, replied}
 use Rattle.machine.specs.ByTest.{one_if_true, one_if_false}
 use Rattle.machine.specs.Replies.{turned}
 use Rattle.machine.specs.States.{state_with, next_node, fresh, StateInShape}
-use Rattle.machine.specs.Calls.{b_of, edge_found, raised, opened_state, do_open, marks_left, with_marks, found_state, do_look, next_position, fired_state, do_fire, refused, unless_refused, open_in_shape, look_in_shape, fire_in_shape, both_fit, begin_run, step_in_shape, step_call, reading_in_shape}
+use Rattle.machine.specs.Calls.{b_of, edge_found, raised, to_see, opened_state, do_open, marks_left, with_marks, found_state, do_look, next_position, fired_state, do_fire, refused, unless_refused, open_in_shape, look_in_shape, fire_in_shape, row_excess, position_bad, opened_bad, counter_bad, state_fits, both_fit, begin_run, open_call, look_call, fire_call, step_in_shape, step_call, reading_in_shape, reading_call}
 use Rattle.machine.specs.CallCases.{accepts}
-use Rattle.machine.specs.InRange.{OpenOk, EdgeOk, FireOk, process_lt, known_edge, open_ok, edge_ok, fire_ok}
-use Rattle.machine.specs.Same.{stored_same, row_of, row_at}
+use Rattle.machine.specs.Same.{raised_state, stored_same, row_of, row_at}
+
+-- ---- the test of a state
+module _ (pl : Plan) (st : State) where
+  -- how many entries are out of range
+  abbrev positions_bad : ℕ
+  positions_bad = sum (λ p. one_if (out_of_range (at pl.lengths) pl.processes st.positions p)) 64
+
+  abbrev flags_bad : ℕ
+  flags_bad = sum (λ p. one_if (out_of_range (λ k. 2) pl.processes st.opened p)) 64
+
+  abbrev counters_bad : ℕ
+  counters_bad = sum (λ c. one_if (out_of_range (λ k. pl.modulus) pl.counters st.counters c)) 64
+
+  pub fits_by_marks : (fits : Bool) → positions_bad ≡ 0 → flags_bad ≡ 0 → counters_bad ≡ 0 → fits ≡ (sum (row_excess pl st) 64 == 0)
+      → fits ≡ state_fits pl st
+  unfolding state_fits position_bad opened_bad counter_bad
+  fits_by_marks fits a b c m =
+      if_no _ _ _ _ (le-ltb 0 positions_bad (omega arith))
+      (if_no _ _ _ _ (le-ltb 0 flags_bad (omega arith)) (if_no _ _ _ _ (le-ltb 0 counters_bad (omega arith)) m))
+
+  pub bad_position : (fits : Bool) → fits ≡ false → positions_bad ≢ 0 → fits ≡ state_fits pl st
+  unfolding state_fits position_bad
+  bad_position fits f h = if_yes _ _ _ _ (lt-ltb 0 positions_bad (omega arith)) f
+
+  pub bad_flag : (fits : Bool) → fits ≡ false → positions_bad ≡ 0 → flags_bad ≢ 0 → fits ≡ state_fits pl st
+  unfolding state_fits position_bad opened_bad
+  bad_flag fits f a h = if_no _ _ _ _ (le-ltb 0 positions_bad (omega arith)) (if_yes _ _ _ _ (lt-ltb 0 flags_bad (omega arith)) f)
+
+  pub bad_counter : (fits : Bool) → fits ≡ false → positions_bad ≡ 0 → flags_bad ≡ 0 → counters_bad ≢ 0 → fits ≡ state_fits pl st
+  unfolding state_fits position_bad opened_bad counter_bad
+  bad_counter fits f a b h =
+      if_no _ _ _ _ (le-ltb 0 positions_bad (omega arith))
+      (if_no _ _ _ _ (le-ltb 0 flags_bad (omega arith)) (if_yes _ _ _ _ (lt-ltb 0 counters_bad (omega arith)) f))
 
 -- ---- the next position
 pub last_goes : (position length : ℕ) → position + 1 ≡ length → 0 ≡ next_position position length
@@ -43,15 +77,41 @@ pub others_go : (position length : ℕ) → (position + 1 ≢ length) → positi
 unfolding next_position
 others_go position length d = if_no (suc position == length) _ _ _ (ne_eqb (suc position) length (λ e. d (omega arith))) (omega arith)
 
--- Q is the sum at every edge
-module _ (pl : Plan) (shape : InShape pl) (e n tokens x y : ℕ) where
-  sum_finds : finds pl.q n tokens x y ≡ finds (edge_sum pl e) n tokens x y
-  unfolding edge_sum
-  sum_finds = ap (λ s. finds s n tokens x y) shape.q_is
+-- ---- what each call answers and leaves
+module _ (pl : Plan) (st : State) (p : ℕ) where
+  -- open
+  pub opened_step : (shape : InShape pl) (node count : ℕ) (row marks : List ℕ) (after : State) → node ≡ next_in pl.order pl.lengths st.positions p
+      → row ≡ row_of pl node → marks ≡ with_row st.marks (at row) pl.edges p
+      → after ≡ raised_state (state_with st.positions (slice_set st.opened p 1) marks st.counters st.turn) → count ≡ sum (at row) pl.edges
+      → turned (Opened count) after ≡ do_open pl st p
+  unfolding do_open opened_state next_node with_marks
+  opened_step shape node count row marks after a b c d f =
+      let same : (e : ℕ) → e < pl.edges → at row e ≡ one_if (to_see pl (next_in pl.order pl.lengths st.positions p) e)
+      = λ e h. rw (b, a) (row_at pl (formed pl shape).tables _ e h)
+      in
+      let total = f ∙ sum_same _ _ pl.edges same in
+      let kept = c ∙ stored_same _ _ (512 * p) st.marks pl.edges same in
+      ap (turned (Opened count)) d
+      ∙ (λ i. turned (Opened (total i)) (state_with st.positions (slice_set st.opened p 1) (kept i) st.counters (raised st.turn)))
 
-  sum_reads : reading_printed pl.q n tokens x y ≡ reading_printed (edge_sum pl e) n tokens x y
-  unfolding edge_sum
-  sum_reads = ap (λ s. reading_printed s n tokens x y) shape.q_is
+  -- look
+  module _ (e left : ℕ) (after : State) (found : Bool) (f : found ≡ edge_found pl st e) where
+    pub found_step : found ≡ true → after ≡ raised_state st → left ≡ row_left (slice_set after.marks (spot p e) 0) p
+        → turned (Found left) (state_with after.positions after.opened (slice_set after.marks (spot p e) 0) after.counters after.turn) ≡ do_look pl st p e
+    unfolding do_look found_state with_marks marks_left
+    found_step y a b = if_yes _ _ _ _ (sym f ∙ y) (rw (b, a) refl)
+
+    pub waited_step : found ≡ false → after ≡ raised_state st → left ≡ row_left after.marks p → turned (Wait left) after ≡ do_look pl st p e
+    unfolding do_look with_marks marks_left
+    waited_step n a b = if_no _ _ _ _ (sym f ∙ n) (rw (b, a) refl)
+
+  -- fire
+  pub fired_step : (node v number position : ℕ) (counters : List ℕ) (after : State) → node ≡ next_in pl.order pl.lengths st.positions p
+      → position ≡ next_position (at st.positions p) (at pl.lengths p) → v ≡ node → counters ≡ raised_in pl.counter pl.increment st.counters pl.modulus v
+      → after ≡ raised_state (state_with (slice_set st.positions p position) (slice_set st.opened p 0) st.marks counters st.turn) → number ≡ node
+      → turned (Fired number) after ≡ do_fire pl st p
+  unfolding do_fire fired_state next_node with_marks
+  fired_step node v number position counters after a b c d f g = rw (f, g, d, c, b, a) refl
 
 -- ---- a call, by its number and its code
 module _ (st : State) (n : ℕ) where
@@ -67,134 +127,117 @@ module _ (st : State) (n : ℕ) where
   by_code false false true number_0 number_1 number_2 opens looks fires e h = turned_down number_2 fires e h
   by_code false false false number_0 number_1 number_2 opens looks fires e h = ap (λ k. refused k st) e
 
-module _ (pl : Plan) (st : State) (code p e n : ℕ) (q : n ≡ call_number pl.processes pl.edges st.opened st.marks code p e) where
-  -- refused
-  pub refused_step : 0 < n → turned (Refused n) st ≡ step_in_shape pl st code p e
+-- a reason has a number
+number_some : (reason : Reason) → 0 < number_of reason
+number_some UnknownProcess = omega arith
+number_some AlreadyOpen = omega arith
+number_some Closed = omega arith
+number_some NotMarked = omega arith
+number_some MarksLeft = omega arith
+number_some OutOfShape = omega arith
+number_some UnknownCode = omega arith
+number_some NotSynchronising = omega arith
+
+module _ (pl : Plan) (st : State) (r : Request) where
+  abbrev Allowed : Result Call Reason → Type 0
+  Allowed = Allows pl.processes pl.edges st.opened st.marks r
+
+  abbrev Steps : Turned → Type 0
+  Steps t = t ≡ step_in_shape pl st r.code r.process r.edge
+
+  -- turned down
+  pub refused_step : (reason : Reason) → Allowed (Err reason) → Steps (turned (replied (Err reason)) st)
   unfolding call_number step_in_shape open_in_shape look_in_shape fire_in_shape refused
-  refused_step h = by_code st n (code == 0) (code == 1) (code == 2) _ _ _ (do_open pl st p) (do_look pl st p e) (do_fire pl st p) q h
+  refused_step reason q =
+      by_code st (number_of reason) (r.code == 0) (r.code == 1) (r.code == 2) _ _ _ (do_open pl st r.process) (do_look pl st r.process r.edge)
+      (do_fire pl st r.process) q (number_some reason)
 
-  module _ (z : n ≤ 0) where
-    -- accepted: the number of the code's call is 0
-    open_none : code ≡ 0 → open_number pl.processes st.opened p ≡ 0
-    unfolding call_number
-    open_none a = omega (arith, q ∙ if_true (code == 0) _ _ (eq-eqb code 0 a))
+  -- not turned down: the call's process and its edge are known
+  module _ (asked : Call) (allowed : Allowed (Ok asked)) where
+    module _ (p : ℕ) (is : asked ≡ Open p) where
+      an_open : (open_number pl.processes st.opened p ≡ 0) × (open_in_shape pl st p ≡ step_in_shape pl st r.code r.process r.edge)
+      unfolding call_number step_in_shape
+      an_open =
+          let a : Allowed (Ok (Open p)) = subst (λ k. Allowed (Ok k)) is allowed in
+          let y = eq-eqb r.code 0 a.1.0 in
+          rw (← a.1.1) (sym (if_true (r.code == 0) _ _ y) ∙ a.0, sym (if_true (r.code == 0) _ _ y))
 
-    look_none : code ≡ 1 → look_number pl.processes pl.edges st.opened st.marks p e ≡ 0
-    unfolding call_number
-    look_none a = omega (arith, q ∙ if_false (code == 0) _ _ (ne_eqb code 0 (λ y. omega arith)) ∙ if_true (code == 1) _ _ (eq-eqb code 1 a))
+      pub opens : InShape pl × StateInShape pl st → InShape pl × StateInShape pl st × (p < pl.processes)
+      opens s = (s.0, s.1, ((open_known pl.processes st.opened p).0 an_open.0).0)
 
-    module _ (a : code ≡ 0 → ⊥) (b : code ≡ 1 → ⊥) where
-      is_two : code ≡ 2
-      unfolding call_number
-      is_two =
-          elim (ℕ_discrete code 2) [
-            | yes y ↦ y
-            | no y ↦
-                absurd (omega (
-                  arith,
-                  q ∙ if_false (code == 0) _ _ (ne_eqb code 0 a) ∙ if_false (code == 1) _ _ (ne_eqb code 1 b) ∙ if_false (code == 2) _ _ (ne_eqb code 2 y),
-                ))
-          ]
+      pub open_step : (t : Turned) → t ≡ do_open pl st p → Steps t
+      unfolding open_in_shape
+      open_step t q = q ∙ sym (accepts _ st _ an_open.0) ∙ an_open.1
 
-      fire_none : fire_number pl.processes st.opened st.marks p ≡ 0
-      unfolding call_number
-      fire_none =
-          omega (
-            arith,
-            q ∙ if_false (code == 0) _ _ (ne_eqb code 0 a) ∙ if_false (code == 1) _ _ (ne_eqb code 1 b) ∙ if_true (code == 2) _ _ (eq-eqb code 2 is_two),
+    module _ (p e : ℕ) (is : asked ≡ Look p e) where
+      a_look : (look_number pl.processes pl.edges st.opened st.marks p e ≡ 0) × (look_in_shape pl st p e ≡ step_in_shape pl st r.code r.process r.edge)
+      unfolding call_number step_in_shape
+      a_look =
+          let a : Allowed (Ok (Look p e)) = subst (λ k. Allowed (Ok k)) is allowed in
+          let n = ne_eqb r.code 0 (λ y. omega (arith, a.1.0)) in
+          let y = eq-eqb r.code 1 a.1.0 in
+          rw (← a.1.1, ← a.1.2)
+          (sym (if_false (r.code == 0) _ _ n ∙ if_true (r.code == 1) _ _ y) ∙ a.0, sym (if_false (r.code == 0) _ _ n ∙ if_true (r.code == 1) _ _ y))
+
+      pub looks : InShape pl × StateInShape pl st → InShape pl × StateInShape pl st × (p < pl.processes) × (e < pl.edges)
+      looks s = let k = (look_known pl.processes st.opened p st.marks pl.edges e).0 a_look.0 in (s.0, s.1, k.0, k.2)
+
+      pub look_step : (t : Turned) → t ≡ do_look pl st p e → Steps t
+      unfolding look_in_shape
+      look_step t q = q ∙ sym (accepts _ st _ a_look.0) ∙ a_look.1
+
+    module _ (p : ℕ) (is : asked ≡ Fire p) where
+      a_fire : (fire_number pl.processes st.opened st.marks p ≡ 0) × (fire_in_shape pl st p ≡ step_in_shape pl st r.code r.process r.edge)
+      unfolding call_number step_in_shape
+      a_fire =
+          let a : Allowed (Ok (Fire p)) = subst (λ k. Allowed (Ok k)) is allowed in
+          let m = ne_eqb r.code 0 (λ y. omega (arith, a.1.0)) in
+          let n = ne_eqb r.code 1 (λ y. omega (arith, a.1.0)) in
+          let y = eq-eqb r.code 2 a.1.0 in
+          rw (← a.1.1) (
+            sym (if_false (r.code == 0) _ _ m ∙ if_false (r.code == 1) _ _ n ∙ if_true (r.code == 2) _ _ y) ∙ a.0,
+            sym (if_false (r.code == 0) _ _ m ∙ if_false (r.code == 1) _ _ n ∙ if_true (r.code == 2) _ _ y),
           )
 
-    -- so its process and its edge are known, and what it asks for holds
-    module _ (shape : InShape pl) (ok : StateInShape pl st) where
-      pub opens_ok : code ≡ 0 → OpenOk pl.nodes pl.processes pl.edges pl.lengths pl.order pl.source pl.destination st.positions p
-      opens_ok a = open_ok pl st shape ok p ((open_known pl.processes st.opened p).0 (open_none a)).0
+      pub fires : InShape pl × StateInShape pl st → InShape pl × StateInShape pl st × (p < pl.processes)
+      fires s = (s.0, s.1, ((fire_known pl.processes st.opened p st.marks).0 a_fire.0).0)
 
-      looks : code ≡ 1 → (p < pl.processes) × (at st.opened p ≢ 0) × (e < pl.edges) × (at st.marks (spot p e) ≡ 1)
-      looks a = (look_known pl.processes st.opened p st.marks pl.edges e).0 (look_none a)
-
-      pub edge_known : code ≡ 1
-          → EdgeOk pl.nodes pl.processes pl.modulus pl.q pl.order pl.counter pl.source pl.destination pl.tokens st.counters e
-      edge_known a = edge_ok pl st shape ok e (looks a).2
-
-      pub looks_ok : code ≡ 1 → (p < 64) × (e < 512)
-      looks_ok a = (process_lt pl st shape ok p (looks a).0, known_edge pl shape e (looks a).2)
-
-      pub fires_ok : (code ≢ 0) → (code ≢ 1)
-          → FireOk pl.modulus pl.lengths pl.order pl.counter pl.increment st.positions st.counters p
-      fires_ok a b = fire_ok pl st shape ok p ((fire_known pl.processes st.opened p st.marks).0 (fire_none a b)).0
-
-    -- ---- what each call leaves
-    module _ (turn : ℕ) (t : turn ≡ raised st.turn) where
-      -- open
-      pub opened_step : (shape : InShape pl) (count : ℕ) (opened marks : List ℕ) → code ≡ 0
-          → count ≡ sum (at (row_of pl (next_in pl.order pl.lengths st.positions p))) pl.edges → opened ≡ slice_set st.opened p 1
-          → marks ≡ with_row st.marks (at (row_of pl (next_in pl.order pl.lengths st.positions p))) pl.edges p
-          → turned (Opened count) (state_with st.positions opened marks st.counters turn) ≡ step_in_shape pl st code p e
-      unfolding step_in_shape open_in_shape do_open opened_state next_node
-      opened_step shape count opened marks a b c d =
-          let row = row_at pl (formed pl shape).tables (next_in pl.order pl.lengths st.positions p) in
-          let total = b ∙ sum_same _ _ pl.edges row in
-          let kept = d ∙ stored_same _ _ (512 * p) st.marks pl.edges row in
-          (λ i. turned (Opened (total i)) (state_with st.positions (c i) (kept i) st.counters (t i)))
-          ∙ sym (if_true (code == 0) _ _ (eq-eqb code 0 a) ∙ accepts _ st _ (open_none a))
-
-      -- look
-      look_by : (f : Bool)
-          → turned (if f (Found (row_left (slice_set st.marks (spot p e) 0) p)) (Wait (row_left st.marks p)))
-          (state_with st.positions st.opened (if f (slice_set st.marks (spot p e) 0) st.marks) st.counters turn)
-          ≡ if f (turned (Found (marks_left (found_state st p e) p)) (found_state st p e)) (turned (Wait (marks_left st p)) (with_marks st st.marks))
-      unfolding if marks_left found_state with_marks
-      look_by true = λ i. turned (Found (row_left (slice_set st.marks (spot p e) 0) p)) (state_with st.positions st.opened (slice_set st.marks (spot p e) 0) st.counters (t i))
-      look_by false = λ i. turned (Wait (row_left st.marks p)) (state_with st.positions st.opened st.marks st.counters (t i))
-
-      pub looked_step : (shape : InShape pl) (found : Bool) (r : Reply) (marks : List ℕ) → code ≡ 1
-          → found ≡ finds pl.q pl.modulus (at pl.tokens e)
-          (b_in pl.order pl.lengths pl.counter pl.increment st.counters pl.nodes pl.processes pl.modulus (at pl.destination e))
-          (b_in pl.order pl.lengths pl.counter pl.increment st.counters pl.nodes pl.processes pl.modulus (at pl.source e))
-          → r ≡ if found (Found (row_left (slice_set st.marks (spot p e) 0) p)) (Wait (row_left st.marks p))
-          → marks ≡ if found (slice_set st.marks (spot p e) 0) st.marks
-          → turned r (state_with st.positions st.opened marks st.counters turn) ≡ step_in_shape pl st code p e
-      unfolding step_in_shape look_in_shape do_look edge_found b_of
-      looked_step shape found r marks a f b c =
-          (λ i. turned (b i) (state_with st.positions st.opened (c i) st.counters turn))
-          ∙ look_by found
-          ∙ ap (λ g. if g (turned (Found (marks_left (found_state st p e) p)) (found_state st p e)) (turned (Wait (marks_left st p)) (with_marks st st.marks)))
-          (f ∙ sum_finds pl shape e pl.modulus (at pl.tokens e) _ _)
-          ∙ sym (if_false (code == 0) _ _ (ne_eqb code 0 (λ y. omega arith)) ∙ if_true (code == 1) _ _ (eq-eqb code 1 a) ∙ accepts _ st _ (look_none a))
-
-      -- fire
-      pub fired_step : (node number : ℕ) (positions opened counters : List ℕ) (a : code ≡ 0 → ⊥) (b : code ≡ 1 → ⊥) → number ≡ node
-          → node ≡ next_in pl.order pl.lengths st.positions p
-          → positions ≡ slice_set st.positions p (next_position (at st.positions p) (at pl.lengths p))
-          → opened ≡ slice_set st.opened p 0
-          → counters ≡ raised_in pl.counter pl.increment st.counters pl.modulus (next_in pl.order pl.lengths st.positions p)
-          → turned (Fired number) (state_with positions opened st.marks counters turn) ≡ step_in_shape pl st code p e
-      unfolding step_in_shape fire_in_shape do_fire fired_state next_node
-      fired_step node number positions opened counters a b c d f g h =
-          (λ i. turned (Fired ((c ∙ d) i)) (state_with (f i) (g i) st.marks (h i) (t i)))
-          ∙ sym (if_false (code == 0) _ _ (ne_eqb code 0 a) ∙ if_false (code == 1) _ _ (ne_eqb code 1 b)
-          ∙ if_true (code == 2) _ _ (eq-eqb code 2 (is_two a b)) ∙ accepts _ st _ (fire_none a b))
+      pub fire_step : (t : Turned) → t ≡ do_fire pl st p → Steps t
+      unfolding fire_in_shape
+      fire_step t q = q ∙ sym (accepts _ st _ a_fire.0) ∙ a_fire.1
 
 -- ---- the reading
-module _ (pl : Plan) (st : State) (e r edges : ℕ) (row : List ℕ) (shape : InShape pl) (f : row ≡ crossing_table pl) (g : edges ≡ pl.edges) (h : e < edges) where
+-- of an edge that is not known
+pub unknown_edge : (pl : Plan) (st : State) (e edges : ℕ) → edges ≡ pl.edges → edges ≤ e → Unread 27 ≡ reading_in_shape pl st e
+unfolding reading_in_shape
+unknown_edge pl st e edges f h = if_yes _ _ _ _ (le-leb pl.edges e (omega arith)) refl
+
+-- and of one that is
+module _ (pl : Plan) (st : State) (e r : ℕ) (row : List ℕ) (shape : InShape pl) (f : row ≡ crossing_table pl) (h : e < pl.edges) where
   entry : at row e ≡ one_if (synchronises pl e)
   entry = ap (λ l. at l e) f ∙ crossing_at pl (formed pl shape).tables e (omega arith)
 
   pub reading_turn :
-      r ≡ reading_printed pl.q pl.modulus (at pl.tokens e)
-      (b_in pl.order pl.lengths pl.counter pl.increment st.counters pl.nodes pl.processes pl.modulus (at pl.source e))
-      (b_in pl.order pl.lengths pl.counter pl.increment st.counters pl.nodes pl.processes pl.modulus (at pl.destination e))
+      r ≡ reading_printed (edge_sum pl e) pl.modulus (at pl.tokens e) (b_of pl st (at pl.source e)) (b_of pl st (at pl.destination e))
       → at row e ≡ 1 → Tokens r ≡ reading_in_shape pl st e
-  unfolding reading_in_shape b_of
+  unfolding reading_in_shape
   reading_turn a b =
-      if_no _ _ _ _ (lt-leb pl.edges e (omega arith))
-      (if_yes _ _ _ _ (not-false _ (λ q. omega (arith, entry, one_if_false _ q)))
-      (ap Tokens (a ∙ sum_reads pl shape e pl.modulus (at pl.tokens e) _ _)))
+      if_no _ _ _ _ (lt-leb pl.edges e (omega arith)) (if_yes _ _ _ _ (not-false _ (λ q. omega (arith, entry, one_if_false _ q))) (ap Tokens a))
 
   pub no_reading : (at row e ≢ 1) → Unread 27 ≡ reading_in_shape pl st e
   unfolding reading_in_shape
   no_reading b =
       if_no _ _ _ _ (lt-leb pl.edges e (omega arith)) (if_no _ _ _ _ (not_true _ (λ q. b (omega (arith, entry, one_if_true _ q)))) refl)
+
+-- ---- plan and state tested
+module _ (pl : Plan) (st : State) (fits : Bool) where
+  pub both_by_state : plan_fits pl ≡ true → fits ≡ state_fits pl st → fits ≡ both_fit pl st
+  unfolding both_fit
+  both_by_state y q = if_yes _ _ _ _ y q
+
+  pub plan_unfit : plan_fits pl ≡ false → fits ≡ false → fits ≡ both_fit pl st
+  unfolding both_fit
+  plan_unfit n q = if_no _ _ _ _ n q
 
 -- ---- a call, its plan and its state tested first
 module _ (pl : Plan) (st : State) (code p e : ℕ) where
@@ -202,20 +245,44 @@ module _ (pl : Plan) (st : State) (code p e : ℕ) where
   unfolding step_call refused
   answers_26 h = if_yes _ _ _ _ (lt-ltb 2 code h) refl
 
-  module _ (h : code ≤ 2) (fits : Bool) (f : fits ≡ both_fit pl st) where
-    pub answers : (t : Turned) → fits ≡ true → t ≡ step_in_shape pl st code p e → t ≡ step_call pl st code p e
+  module _ (h : code ≤ 2) where
+    pub answers : (t : Turned) → both_fit pl st ≡ true → t ≡ step_in_shape pl st code p e → t ≡ step_call pl st code p e
     unfolding step_call
-    answers t y q = if_no _ _ _ _ (le-ltb 2 code h) (if_yes _ _ _ _ (sym f ∙ y) q)
+    answers t y q = if_no _ _ _ _ (le-ltb 2 code h) (if_yes _ _ _ _ y q)
 
-    pub answers_25 : fits ≡ false → turned (Refused 25) st ≡ step_call pl st code p e
+    pub answers_25 : both_fit pl st ≡ false → turned (Refused 25) st ≡ step_call pl st code p e
     unfolding step_call refused
-    answers_25 y = if_no _ _ _ _ (le-ltb 2 code h) (if_no _ _ _ _ (sym f ∙ y) refl)
+    answers_25 y = if_no _ _ _ _ (le-ltb 2 code h) (if_no _ _ _ _ y refl)
+
+-- a call of each code
+module _ (pl : Plan) (st : State) (p e : ℕ) where
+  pub open_is : step_call pl st 0 p e ≡ open_call pl st p
+  unfolding open_call step_call step_in_shape if
+  open_is = refl
+
+  pub look_is : step_call pl st 1 p e ≡ look_call pl st p e
+  unfolding look_call step_call step_in_shape if
+  look_is = refl
+
+  pub fire_is : step_call pl st 2 p e ≡ fire_call pl st p
+  unfolding fire_call step_call step_in_shape if
+  fire_is = refl
+
+-- a reading
+module _ (pl : Plan) (st : State) (e : ℕ) where
+  pub reads : (l : Level) → both_fit pl st ≡ true → l ≡ reading_in_shape pl st e → l ≡ reading_call pl st e
+  unfolding reading_call
+  reads l y q = if_yes _ _ _ _ y q
+
+  pub reads_25 : both_fit pl st ≡ false → Unread 25 ≡ reading_call pl st e
+  unfolding reading_call
+  reads_25 y = if_no _ _ _ _ y refl
 
 -- ---- beginning
-pub begun : (pl : Plan) (st : State) (f : Bool) → st ≡ fresh → f ≡ plan_fits pl → f ≡ true → ◌≡◌ {A = Began} (record { number = 0; state = st }) (begin_run pl)
+pub begun : (pl : Plan) (st : State) → st ≡ fresh → plan_fits pl ≡ true → ◌≡◌ {A = Began} (record { number = 0; state = st }) (begin_run pl)
 unfolding begin_run
-begun pl st f a b c = if_yes _ _ _ _ (sym b ∙ c) (rw a)
+begun pl st a c = if_yes _ _ _ _ c (rw a)
 
-pub begun_not : (pl : Plan) (st : State) (f : Bool) → st ≡ fresh → f ≡ plan_fits pl → f ≡ false → ◌≡◌ {A = Began} (record { number = 25; state = st }) (begin_run pl)
+pub begun_not : (pl : Plan) (st : State) → st ≡ fresh → plan_fits pl ≡ false → ◌≡◌ {A = Began} (record { number = 25; state = st }) (begin_run pl)
 unfolding begin_run
-begun_not pl st f a b c = if_no _ _ _ _ (sym b ∙ c) (rw a)
+begun_not pl st a c = if_no _ _ _ _ c (rw a)

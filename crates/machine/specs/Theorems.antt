@@ -8,15 +8,14 @@ use Rattle.plan.specs.Faults.{InShape}
 use Rattle.plan.specs.Tests.{plan_fits}
 use Rattle.plan.specs.Formed.{fits_exactly}
 use Rattle.plan.specs.Agree.{Agree}
-use Rattle.machine.specs.declared.State.{State}
-use Rattle.machine.specs.declared.Turned.{Turned}
+use Rattle.state.specs.declared.State.{State}
+use Rattle.machine.specs.Answers.{Turned}
 use Rattle.machine.specs.States.{fresh, Sized, StateInShape}
 use Rattle.machine.specs.Calls.{raised, do_open, do_look, do_fire, refused, begin_run, reading_call, opened_state, found_state, with_marks, fired_state, edge_found}
 use Rattle.machine.specs.Runs.{Call, turn, IsRefused}
 use Rattle.machine.specs.Replies.{opened_not_refused, found_not_refused, wait_not_refused, fired_not_refused}
 use Rattle.machine.specs.ByTest.{if_either}
 use Rattle.machine.specs.CallCases.{by_step}
-use Rattle.machine.specs.ShapeTest as shape_test
 use Rattle.machine.specs.ShapeKept as kept
 use Rattle.machine.specs.Agreeing as agreeing
 use Rattle.machine.specs.KeptByCalls.{fresh_kept}

@@ -3,10 +3,10 @@
 use Rattle.std.specs.Prelude.{◌≡◌, ℕ, Bool}
 use Rattle.plan.specs.declared.Plan.{Plan}
 use Rattle.plan.specs.Unique.{one_answer}
-use Rattle.machine.specs.declared.State.{State}
-use Rattle.machine.specs.declared.Turned.{Turned}
-use Rattle.machine.specs.declared.Began.{Began}
-use Rattle.machine.specs.declared.Level.{Level}
+use Rattle.state.specs.declared.State.{State}
+use Rattle.machine.specs.Answers.{Turned}
+use Rattle.machine.specs.Answers.{Began}
+use Rattle.machine.specs.Answers.{Level}
 use Rattle.machine.specs.Calls.{both_fit, begin_run, open_call, look_call, fire_call, step_call, reading_call}
 
 pub begin_unique : (pl : Plan) {r r' : Began} → r ≡ begin_run pl → r' ≡ begin_run pl → r ≡ r'

@@ -4,3 +4,4 @@ pub mod Decimal
 -- bytes put at a offset of a buffer
 pub mod Writing
 pub mod PutDecimal
+pub mod Texts

@@ -1,32 +1,14 @@
-// Bytes, words and numbers put into a lent buffer at a offset. A offset past the buffer's end is counted and not written.
-ghost use Rattle.std.specs.Prelude.{◌≡◌, [], ◌∷◌, ◌+◌, ◌<◌, ◌≤◌, length};
+// Text put into a lent buffer. A byte past the buffer's end is counted and not written.
+// `as` stands where std has no `From`: a `usize` from a `u32`, or a number that is proved to fit the smaller type.
+ghost use Rattle.std.specs.Prelude.{[], ◌∷◌, ◌+◌, ◌<◌, ◌≤◌, ◌≡◌, length};
 ghost use Rattle.numerals.specs.Decimal.{decimal, number_then};
-ghost use Rattle.numerals.specs.Writing.{Put};
+ghost use Rattle.numerals.specs.Texts.{Puts};
 
-// One byte.
-pub fn put(out: &mut [u8], offset: usize, byte: u8) -> usize
-    requires { offset < 4000000 }
-    ensures { Put out.old offset (byte ∷ []) out.new result }
-{
-    if offset < out.len() {
-        out[offset] = byte;
-        return offset + 1;
-    }
-    offset + 1
-}
-
-// A word of at most 512 bytes.
-pub fn put_word(out: &mut [u8], offset: usize, word: &[u8]) -> usize
-    requires { (offset < 3000000) × (length word.now ≤ 512) }
-    ensures { Put out.old offset word.now out.new result }
-{
-    let mut next = offset;
-    let mut i: usize = 0;
-    while i < word.len() {
-        next = put(out, next, word[i]);
-        i += 1;
-    }
-    next
+// A lent buffer, and how long the text in it is: longer than the buffer where that had no room for all of it.
+#[derive(Drop)]
+pub struct Text<'a> {
+    pub buffer: &'a mut [u8],
+    pub length: usize,
 }
 
 // The byte of a digit.
@@ -37,23 +19,47 @@ fn digit(d: u32) -> u8
     48 + d as u8
 }
 
-// A number in decimal digits, without a leading zero: at most ten of them.
-pub fn put_decimal(out: &mut [u8], offset: usize, n: u32) -> usize
-    requires { offset < 3000000 }
-    ensures { Put out.old offset (decimal n) out.new result × (result ≤ offset + 10) }
-{
-    if n < 10 {
-        return put(out, offset, digit(n));
+impl Text<'_> {
+    // One byte.
+    pub fn put(&mut self, byte: u8)
+        requires { self.old.length < 4000000 }
+        ensures { Puts self.old (byte ∷ []) self.new }
+    {
+        if self.length < self.buffer.len() {
+            self.buffer[self.length] = byte;
+        }
+        self.length += 1;
     }
-    let next = put_decimal(out, offset, n / 10);
-    put(out, next, digit(n % 10))
-}
 
-// A number and the byte behind it.
-pub fn put_number(out: &mut [u8], offset: usize, n: u32, byte: u8) -> usize
-    requires { offset < 2000000 }
-    ensures { Put out.old offset (number_then n byte) out.new result × (result ≤ offset + 11) }
-{
-    let next = put_decimal(out, offset, n);
-    put(out, next, byte)
+    // A word of at most 512 bytes.
+    pub fn put_word(&mut self, word: &[u8])
+        requires { (self.old.length < 3000000) × (length word.now ≤ 512) }
+        ensures { Puts self.old word.now self.new }
+    {
+        for byte in word {
+            self.put(*byte);
+        }
+    }
+
+    // A number in decimal digits, without a leading zero: at most ten of them.
+    pub fn put_decimal(&mut self, n: u32)
+        requires { self.old.length < 3000000 }
+        ensures { Puts self.old (decimal n) self.new × (self.new.length ≤ self.old.length + 10) }
+    {
+        if n < 10 {
+            self.put(digit(n));
+        } else {
+            self.put_decimal(n / 10);
+            self.put(digit(n % 10));
+        }
+    }
+
+    // A number and the byte behind it.
+    pub fn put_number(&mut self, n: u32, byte: u8)
+        requires { self.old.length < 2000000 }
+        ensures { Puts self.old (number_then n byte) self.new × (self.new.length ≤ self.old.length + 11) }
+    {
+        self.put_decimal(n);
+        self.put(byte);
+    }
 }

@@ -1,26 +1,34 @@
 -- What answers a `returns` of tests in order: refused here, or what comes next. Assumes nothing.
-use Rattle.std.specs.Prelude.{ℕ, ◌<◌, ◌≤◌, ◌≡◌, Bool, true, false}
-use Rattle.std.proofs.Common.{arith, ◌∙◌, lt-ltb, le-ltb}
-use Rattle.std.proofs.Math.Path.{ap}
-use Rattle.loops.specs.Choice.{if_yes, if_no}
-use Rattle.loops.specs.First.{first}
+use Rattle.std.specs.Prelude.{ℕ, ◌≡◌, refl, Bool, true, false, ltb, Some, None, Result, Ok, Err}
+use Rattle.std.proofs.Common.{ap, lt-ltb, le-ltb}
+use Rattle.std.specs.Result.{IsErrAnd}
+use Rattle.loops.specs.Choice.{if_true, if_false}
+use Rattle.loops.specs.Values.{first, lowest}
+use Rattle.loops.specs.Chains.{lowest_some, lowest_none, lowest_lt}
+use Rattle.plan.specs.declared.Refusal.{Refusal}
 use Rattle.plan.specs.Tests.{refuse_lowest, refuse_if}
 
-module _ {A : Type 0} (refused : ℕ → ℕ → A) where
-  module _ (number : ℕ) (test : ℕ → Bool) (bound : ℕ) (next r : A) (place : ℕ) where
-    pub refused_here : r ≡ refused number place → place ≡ first test bound → place < bound → r ≡ refuse_lowest refused number test bound next
-    unfolding refuse_lowest
-    refused_here e p h = if_yes _ r _ next (lt-ltb (first test bound) bound (omega arith)) (e ∙ ap (refused number) p)
+-- an answer that is some refusal
+pub err_is : {X : Type 0} (r : Result X Refusal) (e : Refusal) → IsErrAnd r (λ x. x ≡ e) → r ≡ Err e
+err_is (Ok x) e h = absurd h
+err_is (Err x) e h = ap Err h
 
-    pub passed_here : place ≡ first test bound → bound ≤ place → r ≡ next → r ≡ refuse_lowest refused number test bound next
-    unfolding refuse_lowest
-    passed_here p h e = if_no _ r _ next (le-ltb (first test bound) bound (omega arith)) e
+-- a test of an order by what was found: `search` ends in `grind`, which takes these cases
+module _ {A : Type 0} (refused : ℕ → ℕ → A) (number : ℕ) (next : A) where
+  pub refuses_some : (f : ℕ → Bool) (n k : ℕ) → lowest f n ≡ Some k → refuse_lowest refused number f n next ≡ refused number k
+  unfolding refuse_lowest
+  refuses_some f n k e = let t = lowest_some f n (lowest f n) refl k e in rw (← t.1) (if_true (ltb k n) (refused number k) next (lt-ltb k n t.0))
 
-  module _ (number : ℕ) (test : Bool) (next r : A) where
-    pub refused_if : r ≡ refused number 0 → test ≡ true → r ≡ refuse_if refused number test next
-    unfolding refuse_if
-    refused_if e p = if_yes test r _ next p e
+  pub refuses_none : (f : ℕ → Bool) (n : ℕ) → lowest f n ≡ None → refuse_lowest refused number f n next ≡ next
+  unfolding refuse_lowest
+  refuses_none f n e = if_false (ltb (first f n) n) (refused number (first f n)) next (le-ltb (first f n) n (lowest_none f n (lowest f n) refl e))
 
-    pub passed_if : test ≡ false → r ≡ next → r ≡ refuse_if refused number test next
-    unfolding refuse_if
-    passed_if p e = if_no test r _ next p e
+  pub refuses_true : (t : Bool) → t ≡ true → refuse_if refused number t next ≡ refused number 0
+  unfolding refuse_if
+  refuses_true t e = if_true t (refused number 0) next e
+
+  pub refuses_false : (t : Bool) → t ≡ false → refuse_if refused number t next ≡ next
+  unfolding refuse_if
+  refuses_false t e = if_false t (refused number 0) next e
+
+pub ruleset refuses = (refuses_some, refuses_none, refuses_true, refuses_false, lowest_lt)

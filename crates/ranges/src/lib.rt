@@ -1,93 +1,61 @@
 #![tactic(auto)]
-// How many entries of a state's lists are out of range: positions, open flags and counters.
-ghost use Rattle.std.specs.Prelude.{◌≡◌, ◌<◌, ◌≤◌};
-ghost use Rattle.loops.specs.Choice.{at, one_if};
+// How many entries of a state's lists are out of range: positions, open flags and counters. Counts, as the rules count them
+// (`state_fits`); their callers ask whether there are any.
+ghost use Rattle.std.specs.Prelude.{List, ℕ, ◌≡◌, ◌<◌, ltb, leb};
+ghost use Rattle.loops.specs.Choice.{at, if, one_if};
 ghost use Rattle.loops.specs.Sum.{sum};
-ghost use Rattle.ranges.specs.Range.{out_of_range};
+ghost use Rattle.ranges.specs.Range.{out_of_range, Gives};
 
-// 1 where a test is true, else 0.
-fn one_if(test: bool) -> u8
-    ensures { (result ≡ one_if test) × (result ≤ 1) }
-{
-    if test { 1 } else { 0 }
-}
+use plan::Plan;
+use state::State;
 
-// A position at or above its process's length, or not 0 past the processes.
-fn position_bad<'a>(
-    lengths: &'a [u16; 64],
-    processes: u16,
-    positions: &'a [u16; 64],
-    p: usize,
-) -> u8
-    requires { p < 64 }
-    ensures { (result ≡ one_if (out_of_range (at lengths.now) processes positions.now p)) × (result ≤ 1) }
+// Entry k is out of range: at or above its limit, or not 0 past the count.
+#[tactic(auto, using(loops::specs::Choice::ifs))]
+fn is_bad(count: u16, limit: u32, entry: u32, k: usize) -> bool
+    ensures { result ≡ if (ltb k count) (leb limit entry) (ltb 0 entry) }
 {
-    if (p as u16) < processes {
-        one_if(lengths[p] <= positions[p])
+    if k < usize::from(count) {
+        limit <= entry
     } else {
-        one_if(0 < positions[p])
+        0 < entry
     }
 }
 
-// How many positions are out of range.
-pub fn positions_bad<'a>(lengths: &'a [u16; 64], processes: u16, positions: &'a [u16; 64]) -> u32
-    ensures { result ≡ sum (λ p. one_if (out_of_range (at lengths.now) processes positions.now p)) 64 }
+// How many of 64 entries are out of range, each given by its place, as its limit is. A chain's sum would have to know beforehand
+// what the two give, so this is a `for`.
+fn entries_bad<L: Fn(usize) -> u32, E: Fn(usize) -> u32>(count: u16, limit: L, entry: E) -> u32
+    requires limit_given { (k : ℕ) → k < 64 → L.pre limit k }
+    requires entry_given { (k : ℕ) → k < 64 → E.pre entry k }
+    ensures { (limits : ℕ → ℕ) (entries : List ℕ) → Gives (L.post limit) limits → Gives (E.post entry) (at entries) → result ≡ sum (λ k. one_if (out_of_range limits count entries k)) 64 }
 {
-    let mut bad: u32 = 0;
-    let mut p: usize = 0;
-    while p < 64 {
-        bad += position_bad(lengths, processes, positions, p) as u32;
-        p += 1;
+    let mut bad = 0;
+    for k in 0..64 {
+        bad += u32::from(is_bad(count, limit(k), entry(k), k));
     }
     bad
 }
 
-// An open flag above 1, or not 0 past the processes.
-fn flag_bad(processes: u16, opened: &[u8; 64], p: usize) -> u8
-    requires { p < 64 }
-    ensures { (result ≡ one_if (out_of_range (λ k. 2) processes opened.now p)) × (result ≤ 1) }
+// How many positions are out of range: at or above their process's length, or not 0 past the processes.
+pub fn positions_bad(plan: &Plan, state: &State) -> u32
+    ensures { result ≡ sum (λ p. one_if (out_of_range (at plan.now.lengths) plan.now.processes state.now.positions p)) 64 }
 {
-    if (p as u16) < processes {
-        one_if(2 <= opened[p])
-    } else {
-        one_if(0 < opened[p])
-    }
+    entries_bad(
+        plan.processes,
+        |p| u32::from(plan.lengths[p]),
+        |p| u32::from(state.positions[p]),
+    )
 }
 
-// How many open flags are out of range.
-pub fn flags_bad(processes: u16, opened: &[u8; 64]) -> u32
-    ensures { result ≡ sum (λ p. one_if (out_of_range (λ k. 2) processes opened.now p)) 64 }
+// How many open flags are out of range: above 1, or not 0 past the processes.
+pub fn flags_bad(plan: &Plan, state: &State) -> u32
+    ensures { result ≡ sum (λ p. one_if (out_of_range (λ k. 2) plan.now.processes state.now.opened p)) 64 }
 {
-    let mut bad: u32 = 0;
-    let mut p: usize = 0;
-    while p < 64 {
-        bad += flag_bad(processes, opened, p) as u32;
-        p += 1;
-    }
-    bad
+    entries_bad(plan.processes, |_| 2, |p| u32::from(state.opened[p]))
 }
 
-// A counter at or above N, or not 0 past the counters.
-fn counter_bad(modulus: u32, count: u16, counters: &[u32; 64], c: usize) -> u8
-    requires { c < 64 }
-    ensures { (result ≡ one_if (out_of_range (λ k. modulus) count counters.now c)) × (result ≤ 1) }
+// How many counters are out of range: at or above N, or not 0 past the counters.
+pub fn counters_bad(plan: &Plan, state: &State) -> u32
+    ensures { result ≡ sum (λ c. one_if (out_of_range (λ k. plan.now.modulus) plan.now.counters state.now.counters c)) 64 }
 {
-    if (c as u16) < count {
-        one_if(modulus <= counters[c])
-    } else {
-        one_if(0 < counters[c])
-    }
-}
-
-// How many counters are out of range.
-pub fn counters_bad(modulus: u32, count: u16, counters: &[u32; 64]) -> u32
-    ensures { result ≡ sum (λ c. one_if (out_of_range (λ k. modulus) count counters.now c)) 64 }
-{
-    let mut bad: u32 = 0;
-    let mut c: usize = 0;
-    while c < 64 {
-        bad += counter_bad(modulus, count, counters, c) as u32;
-        c += 1;
-    }
-    bad
+    entries_bad(plan.counters, |_| plan.modulus, |c| state.counters[c])
 }

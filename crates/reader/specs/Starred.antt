@@ -10,7 +10,7 @@ use Rattle.loops.specs.Table.{entries, padded}
 use Rattle.plan.specs.Value.{base, share, counter_sum, edge_sum}
 use Rattle.plan.specs.Tests.{outside, bad_counts, zero_length, same_entry, bad_order, bad_node, not_above, not_rising, bad_edge, stands_at, order_position, ends_past, process_at, home_of, different, refuse_lowest, refuse_if, order_then, tables_then}
 use Rattle.routes.specs.Rows.{total, start, relaxed, sweep, settled, emptiest_row}
-use Rattle.judge.specs.declared.Answer.TheVariants.{Accepted, Refused}
+use Rattle.judge.specs.Answer.{Accepted, Refused}
 use Rattle.seats.specs.Crossing.{crosses}
 use Rattle.rounds.specs.Lent.{is_edge, is_last, fires_after, edge_tokens, has_counter, lacks_edge, strays_in, bad_counter_in, sends_in, bad_increment_in, bad_sum_in}
 use Rattle.cycles.specs.Lent.{loop_sum_in, closes_free_in, on_free_cycle_in, no_way_back_in, not_above_in, asks_in, most_asked}

@@ -4,10 +4,10 @@ use Rattle.std.specs.Prelude.{◌≡◌, List, ℕ, ltb, length, replicate}
 use Rattle.loops.specs.Choice.{if}
 use Rattle.plan.specs.declared.Plan.{Plan}
 use Rattle.plan.specs.Tests.{bad_counts, refuse_if}
-use Rattle.judge.specs.declared.Answer.{Answer}
-use Rattle.judge.specs.declared.Answer.TheVariants.{Accepted, Refused}
+use Rattle.judge.specs.Answer.{Answer}
+use Rattle.judge.specs.Answer.{Accepted, Refused}
 use Rattle.judge.specs.Tests.{from_5}
-use Rattle.reader.specs.declared.ReadPlan.{ReadPlan}
+use Rattle.reader.specs.Answer.{ReadPlan}
 use Rattle.numerals.specs.LittleEndian.{two_bytes, four_bytes}
 use Rattle.image.specs.Image.{plan_of}
 use Rattle.image.specs.Header.{good_format, good_offsets}

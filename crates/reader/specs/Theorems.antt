@@ -7,13 +7,13 @@ use Rattle.plan.specs.Value.{counter_sum, Synchronising}
 use Rattle.plan.specs.Unique.{one_answer}
 use Rattle.plan.specs.Order.{FirstFault}
 use Rattle.plan.specs.Chain.{first_number}
-use Rattle.judge.specs.declared.Answer.TheVariants.{Accepted, Refused}
+use Rattle.judge.specs.Answer.{Accepted, Refused}
 use Rattle.judge.specs.Conditions.{LeastModulus}
 use Rattle.judge.specs.Sound.{Upheld, Sound}
 use Rattle.judge.specs.Tests.{least_modulus}
 use Rattle.judge.specs.Decided.{accepted, not_accepted}
 use Rattle.judge.proofs.Theorems as judge
-use Rattle.reader.specs.declared.ReadPlan.{ReadPlan}
+use Rattle.reader.specs.Answer.{ReadPlan}
 use Rattle.image.specs.Image.{plan_of}
 use Rattle.reader.specs.Faults.{image_order}
 use Rattle.reader.specs.Layout.{Layout}

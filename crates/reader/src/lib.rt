@@ -1,22 +1,24 @@
 #![tactic(auto)]
 // A plan image read: accepted with Q, N and the least modulus, or refused with a number and a place.
-ghost use Rattle.std.specs.Prelude.{◌≡◌, true, ◌≤◌, length};
-ghost use Rattle.image.specs.Header.{good_format};
-ghost use Rattle.reader.specs.Tests.{no_plan, read_of};
-ghost use Rattle.reader.specs.Steps.{reading, filled};
-ghost use Rattle.judge.specs.declared.Answer.TheVariants.{Refused};
+ghost use Rattle.std.specs.Prelude.{◌≡◌, IfOk};
+ghost use Rattle.image.specs.Room.{Laid};
+ghost use Rattle.image.specs.Image.{tables_of, plan_of};
+ghost use Rattle.judge.specs.Answer.{answered};
+ghost use Rattle.reader.specs.Answer.{told};
+ghost use Rattle.reader.specs.Tests.{no_plan, verdict, read_of};
 
-use judge::Answer;
-use plan::Plan;
+use judge::Acceptance;
+use plan::{Plan, Refusal, Test};
 
-// The answer, and beside it the plan: all 0 after a refusal.
+// The answer, and beside it the plan: all 0 after a refusal, which is promised too (`read_of`), so the plan stands beside a `Result`.
 #[derive(Clone, Copy)]
 pub struct ReadPlan {
-    pub answer: Answer,
+    pub answer: Result<Acceptance, Refusal>,
     pub plan: Plan,
 }
 
 // Nothing of a plan: every count, N, Q and every entry 0.
+#[tactic(auto, unfolding(crate::specs::Tests::no_plan))]
 fn empty_plan() -> Plan
     ensures { result ≡ no_plan }
 {
@@ -37,82 +39,41 @@ fn empty_plan() -> Plan
     }
 }
 
-// A refusal at place 0.
-fn refusal(number: u32) -> Answer
-    ensures { result ≡ Refused number 0 }
+// The plan of the image's numbers, put where it is to stand. A call of its own, so that what it is copied from is not on the stack beside
+// the tests.
+#[inline(never)]
+fn fill(image: &[u8], plan: &mut Plan)
+    requires { Laid image.now }
+    ensures { plan.new ≡ tables_of image.now }
 {
-    Answer::Refused { number, place: 0 }
+    *plan = image::plan_from(image);
 }
 
-// The plan beside the answer that accepts it, with that answer's Q; nothing of it beside a refusal.
-fn beside(answer: Answer, plan: &mut Plan)
-    ensures { plan.new ≡ filled answer plan.old }
+// The tests of an image in 01's order. The plan of an accepted image stands in `plan` then, with its Q.
+#[tactic(auto, using(plan::specs::Refusing::refuses, loops::specs::Choice::if_true, loops::specs::Choice::if_false, crate::specs::Steps::laid_of, crate::specs::Steps::counted_of, crate::specs::Steps::answer_is, crate::specs::Steps::filled_is), unfolding(crate::specs::Tests::verdict))]
+fn read_into(image: &[u8], plan: &mut Plan) -> Result<Acceptance, Refusal>
+    ensures answer { answered result ≡ verdict image.now }
+    ensures accepted { IfOk result (λ a. plan.new ≡ plan_of image.now) }
 {
-    match answer {
-        Answer::Accepted {
-            q,
-            modulus: _,
-            least: _,
-        } => plan.q = q,
-        Answer::Refused {
-            number: _,
-            place: _,
-        } => *plan = empty_plan(),
-    }
+    Test::Header.refuse_if(image.len() < 36)?;
+    Test::Format.refuse_if(!image::format_fits(image))?;
+    Test::Counts.refuse_if(entries::counts_bad(image::counts_of(image)))?;
+    Test::Layout.refuse_if(!image::offsets_fit(image))?;
+    fill(image, plan);
+    let accepted = judge::from_5(plan)?;
+    plan.q = accepted.q;
+    Ok(accepted)
 }
 
 // A plan image read: Q, N and the least modulus with the plan, or a number and a place and nothing of the plan.
+#[tactic(auto, unfolding(crate::specs::Tests::read_of, crate::specs::Tests::plan_beside))]
 pub fn read(image: &[u8]) -> ReadPlan
-    ensures { result ≡ read_of image.now }
+    ensures { told result ≡ read_of image.now }
 {
     let mut plan = empty_plan();
-    if image.len() < 36 {
-        let answer = refusal(1);
-        return ReadPlan { answer, plan };
+    let answer = read_into(image, &mut plan);
+    if answer.is_err() {
+        plan = empty_plan();
     }
-    if image::format_fits(image) {
-        let answer = read_counted(image, &mut plan);
-        return ReadPlan { answer, plan };
-    }
-    let answer = refusal(2);
     ReadPlan { answer, plan }
-}
-
-// Test 3, and what comes after it. What stands in the plan is the image's plan, or nothing of it after a refusal.
-fn read_counted(image: &[u8], plan: &mut Plan) -> Answer
-    requires { (36 ≤ length image.now) × (good_format image.now ≡ true) }
-    ensures { reading result plan.new ≡ read_of image.now }
-{
-    let counts = entries::counts_bad(
-        numerals::pair_at(image, 2),
-        numerals::pair_at(image, 4),
-        numerals::pair_at(image, 6),
-        numerals::pair_at(image, 8),
-        numerals::quad_at(image, 12),
-    );
-    if counts {
-        *plan = empty_plan();
-        return refusal(3);
-    }
-    if image::offsets_fit(image) {
-        *plan = image::plan_from(image);
-        let answer = judge::from_5(
-            plan.nodes as usize,
-            plan.processes as usize,
-            plan.edges as usize,
-            plan.counters as usize,
-            plan.modulus,
-            &plan.lengths,
-            &plan.order,
-            &plan.counter,
-            &plan.increment,
-            &plan.source,
-            &plan.destination,
-            &plan.tokens,
-        );
-        beside(answer, plan);
-        return answer;
-    }
-    *plan = empty_plan();
-    refusal(4)
 }

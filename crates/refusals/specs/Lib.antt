@@ -2,5 +2,5 @@
 pub mod Numbers
 -- what a call names that is not turned down
 pub mod Known
--- tests against limits
-pub mod Limits
+pub mod Reasons
+pub mod Apart

@@ -1,101 +1,140 @@
 #![tactic(auto)]
-// Turned-down calls, tested in 01's order: the number, or 0 where the call is accepted.
-ghost use Rattle.std.specs.Prelude.{◌≡◌, ◌<◌, ◌≤◌};
-ghost use Rattle.refusals.specs.Numbers.{marked_in, open_number, look_number, fire_number, call_number};
+// Turned-down calls, tested in 01's order: why a call is refused, by name and by 01's number.
+// Bounds of counts stay in each `requires`: a type that held them all would ask more of a caller than each function asks.
+ghost use Rattle.std.specs.Prelude.{◌≡◌, ◌<◌, ◌≤◌, MatchResult};
+ghost use Rattle.refusals.specs.Numbers.{open_number, look_number, fire_number};
+ghost use Rattle.refusals.specs.Reasons.{number_of, number_in, Allows};
+ghost use Rattle.refusals.specs.declared.Reason.TheVariants.{UnknownProcess, NotMarked};
 
-// Edge e is marked for process p.
-fn is_marked(marks: &[u8; 32768], edges: u16, p: usize, edge: u32) -> bool
-    requires { (p < 64) × (edges ≤ 512) }
-    ensures { result ≡ marked_in marks.now edges p edge }
-{
-    if numerals::to_word(edges) <= edge {
-        return false;
+use plan::Plan;
+use state::State;
+
+// Why a call, a token reading or a beginning is turned down.
+#[derive(Clone, Copy, PartialEq, Eq)]
+pub enum Reason {
+    UnknownProcess = 20,
+    AlreadyOpen = 21,
+    Closed = 22,
+    NotMarked = 23,
+    MarksLeft = 24,
+    OutOfShape = 25,
+    UnknownCode = 26,
+    NotSynchronising = 27,
+}
+
+impl From<Reason> for u32 {
+    ghost from_gives = { λ reason number. number ≡ number_of reason };
+
+    // The number that 01 gives a reason.
+    fn from(reason: Reason) -> u32 {
+        reason as u32
     }
-    marks[512 * p + edge as usize] == 1
+}
+
+// A call as the host asks it: its code, 0 open, 1 look, 2 fire, and the process and the edge. Any numbers are a request.
+#[derive(Clone, Copy)]
+pub struct Request {
+    pub code: u32,
+    pub process: u32,
+    pub edge: u32,
+}
+
+// A call that a request asks, of a known process and edge by their indexes.
+#[derive(Clone, Copy)]
+pub enum Call {
+    Open { process: usize },
+    Look { process: usize, edge: usize },
+    Fire { process: usize },
+}
+
+// The index of a known process.
+fn known_process(plan: &Plan, process: u32) -> Result<usize, Reason>
+    ensures { MatchResult result (λ p. (p ≡ process) × (p < plan.now.processes)) (λ reason. (plan.now.processes ≤ process) × (reason ≡ UnknownProcess)) }
+{
+    if process < u32::from(plan.processes) {
+        Ok(process as usize)
+    } else {
+        Err(Reason::UnknownProcess)
+    }
+}
+
+// The index of a known edge. One that is not known is marked for no process.
+fn known_edge(plan: &Plan, edge: u32) -> Result<usize, Reason>
+    ensures { MatchResult result (λ e. (e ≡ edge) × (e < plan.now.edges)) (λ reason. (plan.now.edges ≤ edge) × (reason ≡ NotMarked)) }
+{
+    if edge < u32::from(plan.edges) {
+        Ok(edge as usize)
+    } else {
+        Err(Reason::NotMarked)
+    }
 }
 
 // 20 unknown process; 21 open on an open process.
-#[tactic(auto, unfolding(crate::specs::Numbers::open_number), using(loops::specs::Choice::ifs, crate::specs::Limits::limits))]
-pub fn of_open(processes: u16, opened: &[u8; 64], process: u32) -> u32
-    requires { processes ≤ 64 }
-    ensures { result ≡ open_number processes opened.now process }
+#[tactic(auto, unfolding(crate::specs::Numbers::open_number), using(loops::specs::Choice::ifs))]
+pub fn of_open(plan: &Plan, state: &State, process: u32) -> Result<(), Reason>
+    requires { plan.now.processes ≤ 64 }
+    ensures { number_in result ≡ open_number plan.now.processes state.now.opened process }
 {
-    if numerals::to_word(processes) <= process {
-        return 20;
+    let p = known_process(plan, process)?;
+    if state.opened[p] != 0 {
+        return Err(Reason::AlreadyOpen);
     }
-    if opened[process as usize] == 0 { 0 } else { 21 }
+    Ok(())
 }
 
 // 20 unknown process; 22 look on a closed one; 23 look at an edge that isn't marked for it.
-pub fn of_look<'a>(
-    processes: u16,
-    edges: u16,
-    opened: &'a [u8; 64],
-    marks: &'a [u8; 32768],
-    process: u32,
-    edge: u32,
-) -> u32
-    requires { (processes ≤ 64) × (edges ≤ 512) }
-    ensures { result ≡ look_number processes edges opened.now marks.now process edge }
+#[tactic(auto, unfolding(crate::specs::Numbers::look_number, crate::specs::Numbers::marked_in), using(loops::specs::Choice::ifs))]
+pub fn of_look(plan: &Plan, state: &State, process: u32, edge: u32) -> Result<(), Reason>
+    requires { (plan.now.processes ≤ 64) × (plan.now.edges ≤ 512) }
+    ensures { number_in result ≡ look_number plan.now.processes plan.now.edges state.now.opened state.now.marks process edge }
 {
-    if numerals::to_word(processes) <= process {
-        return 20;
+    let p = known_process(plan, process)?;
+    if state.opened[p] == 0 {
+        return Err(Reason::Closed);
     }
-    if opened[process as usize] == 0 {
-        return 22;
+    let e = known_edge(plan, edge)?;
+    if state.marks[512 * p + e] != 1 {
+        return Err(Reason::NotMarked);
     }
-    if is_marked(marks, edges, process as usize, edge) {
-        0
-    } else {
-        23
-    }
+    Ok(())
 }
 
 // 20 unknown process; 22 fire on a closed one; 24 fire with marks left.
-#[tactic(auto, unfolding(crate::specs::Numbers::fire_number), using(loops::specs::Choice::ifs, crate::specs::Limits::limits))]
-pub fn of_fire<'a>(
-    processes: u16,
-    opened: &'a [u8; 64],
-    marks: &'a [u8; 32768],
-    process: u32,
-) -> u32
-    requires { processes ≤ 64 }
-    ensures { result ≡ fire_number processes opened.now marks.now process }
+#[tactic(auto, unfolding(crate::specs::Numbers::fire_number), using(loops::specs::Choice::ifs))]
+pub fn of_fire(plan: &Plan, state: &State, process: u32) -> Result<(), Reason>
+    requires { plan.now.processes ≤ 64 }
+    ensures { number_in result ≡ fire_number plan.now.processes state.now.opened state.now.marks process }
 {
-    if numerals::to_word(processes) <= process {
-        return 20;
+    let p = known_process(plan, process)?;
+    if state.opened[p] == 0 {
+        return Err(Reason::Closed);
     }
-    if opened[process as usize] == 0 {
-        return 22;
+    if rows::marks_left(state, p) != 0 {
+        return Err(Reason::MarksLeft);
     }
-    if rows::marks_left(marks, process as usize) == 0 {
-        0
-    } else {
-        24
-    }
+    Ok(())
 }
 
-// A call by its code, 0 open, 1 look, 2 fire: a code above 2 is turned down with 26.
-pub fn of_call<'a>(
-    processes: u16,
-    edges: u16,
-    opened: &'a [u8; 64],
-    marks: &'a [u8; 32768],
-    code: u32,
-    process: u32,
-    edge: u32,
-) -> u32
-    requires { (processes ≤ 64) × (edges ≤ 512) }
-    ensures { result ≡ call_number processes edges opened.now marks.now code process edge }
+// The call that is asked, or why it is turned down: a code above 2 with 26.
+#[tactic(auto, unfolding(crate::specs::Numbers::call_number), using(loops::specs::Choice::ifs))]
+pub fn of_call(plan: &Plan, state: &State, request: Request) -> Result<Call, Reason>
+    requires { (plan.now.processes ≤ 64) × (plan.now.edges ≤ 512) }
+    ensures { Allows plan.now.processes plan.now.edges state.now.opened state.now.marks request result }
 {
-    if code == 0 {
-        return of_open(processes, opened, process);
+    let (process, edge) = (request.process as usize, request.edge as usize);
+    match request.code {
+        0 => {
+            of_open(plan, state, request.process)?;
+            Ok(Call::Open { process })
+        }
+        1 => {
+            of_look(plan, state, request.process, request.edge)?;
+            Ok(Call::Look { process, edge })
+        }
+        2 => {
+            of_fire(plan, state, request.process)?;
+            Ok(Call::Fire { process })
+        }
+        _ => Err(Reason::UnknownCode),
     }
-    if code == 1 {
-        return of_look(processes, edges, opened, marks, process, edge);
-    }
-    if code == 2 {
-        return of_fire(processes, opened, marks, process);
-    }
-    26
 }

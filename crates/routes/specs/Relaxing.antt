@@ -3,7 +3,7 @@
 use Prim.Native.Nat.{ℕ, ◌+◌, ◌-◌, ◌<◌, ◌≤◌}
 use Rattle.std.proofs.Common.{arith, Fits}
 use Rattle.std.proofs.Math.Decide.{ℕ_discrete, dec_lt}
-use Rattle.std.specs.Prelude.{◌≡◌, List, length}
+use Rattle.std.specs.Prelude.{◌≡◌, List, length, set}
 use Rattle.std.proofs.Math.Path.{ap}
 use Rattle.std.specs.Int.{w32}
 use Rattle.std.proofs.Math.ListN.{get_or-eq_default}
@@ -21,6 +21,18 @@ Low row = (v : ℕ) → at row v ≤ no_route
 pub record EndsInRow (source destination : List ℕ) (edges : ℕ) : Type 0 where
   pub source_lt : (e : ℕ) → e < edges → at source e < 64
   pub destination_lt : (e : ℕ) → e < edges → at destination e < 64
+
+-- a row stays so where no higher number is entered
+pub set_low : (row : List ℕ) (d lower : ℕ) → Low row → lower ≤ no_route → Low (set row d lower)
+set_low row d lower h l v =
+    elim (ℕ_discrete v d) [
+      | yes p ↦
+          elim (dec_lt d (length row)) [
+            | yes q ↦ omega (arith, ap (λ j. at (set row d lower) j) p, get_or-set_same row d lower 0 q)
+            | no q ↦ omega (arith, ap (λ x. at x v) (set_out row d lower (omega arith)), h v)
+          ]
+      | no p ↦ omega (arith, get_or-set_other row d v lower 0 p, h v)
+    ]
 
 module _ (source destination tokens : List ℕ) where
   -- no edge below `edges` can lower an entry

@@ -2,8 +2,12 @@
 -- Assumes nothing.
 use Rattle.std.specs.Prelude.{◌≡◌, List, ℕ, ◌+◌}
 use Rattle.std.proofs.Common.{sym, ap, ap₂, ◌∙◌, arith}
-use Rattle.routes.specs.declared.Sweep.{Sweep}
 use Rattle.routes.specs.Rows.{total, sweep, emptiest_row}
+
+-- the row that a sweep leaves, and by how much the sum of its entries has fallen
+pub record Sweep : Type 0 where
+  pub row : List ℕ
+  pub drop : ℕ
 
 module _ (source destination tokens : List ℕ) (edges : ℕ) where
   -- what `relax_sweep` promises of its answer r for a row

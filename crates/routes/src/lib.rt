@@ -1,72 +1,53 @@
 #![tactic(auto)]
 // The row of emptiest routes from one node: relaxed sweep by sweep until nothing changes.
-ghost use Rattle.std.specs.Prelude.{◌≡◌, ◌+◌, ◌<◌, ◌≤◌, min};
-ghost use Rattle.routes.specs.Rows.{no_route, total, sweep, emptiest_row};
+// Bounds of counts stay in each `requires`: a type that held them all would ask more of a caller than each function asks.
+ghost use Rattle.std.specs.Prelude.{◌≡◌, ◌+◌, ◌<◌, ◌≤◌};
+ghost use Rattle.routes.specs.Rows.{total, sweep, emptiest_row};
 ghost use Rattle.routes.specs.Relaxing.{Low, EndsInRow};
 
-// Stands for no route: the tokens of an emptiest route are fewer.
+use plan::Plan;
+
+// Stands for no route: the tokens of an emptiest route are fewer. A number, as sums over it are taken and compared in every sweep, and
+// as the rules of the row (`no_route` in `Rows`) say it so.
 pub const NO_ROUTE: u32 = 100000;
 
-// A row after a sweep, and by how much the sum of its entries has fallen.
+// The tokens of a route from one node to each. No entry is above `NO_ROUTE`.
 #[derive(Clone, Copy)]
-pub struct Sweep {
-    pub row: [u32; 64],
-    pub drop: u32,
+pub struct Row {
+    pub entries: [u32; 64],
+    ghost low: { Low entries },
 }
 
-// The smaller of an entry and of the source's entry with the edge's tokens added.
-fn smaller(entry: u32, before: u32, tokens: u16) -> u32
-    requires { before ≤ no_route }
-    ensures { result ≡ min entry (before + tokens) }
-{
-    let through = before + (tokens as u32);
-    if through < entry { through } else { entry }
-}
-
-// A sweep: every edge in turn lowers its destination's entry.
-pub fn relax_sweep<'a>(
-    row: [u32; 64],
-    source: &'a [u16; 512],
-    destination: &'a [u16; 512],
-    tokens: &'a [u16; 512],
-    edges: usize,
-) -> Sweep
-    requires { (edges ≤ 512) × EndsInRow source.now destination.now edges × Low row }
-    ensures { (result.row ≡ sweep source.now destination.now tokens.now edges row) × (result.drop + total result.row ≡ total row) }
-{
-    let mut out = row;
-    let mut drop: u32 = 0;
-    let mut e: usize = 0;
-    while e < edges {
-        let s = numerals::to_index(source[e]);
-        let d = numerals::to_index(destination[e]);
-        let entry = out[d];
-        let lower = smaller(entry, out[s], tokens[e]);
-        out[d] = lower;
-        drop += entry - lower;
-        e += 1;
+impl Row {
+    // A sweep where the row stands: every edge in turn lowers its destination's entry. Answers by how much the sum of the entries has
+    // fallen, not only whether it has: that is why sweeps end.
+    #[tactic(auto, using(crate::specs::Relaxing::set_low))]
+    pub fn relax_sweep(&mut self, plan: &Plan) -> u32
+        requires { (plan.now.edges ≤ 512) × EndsInRow plan.now.source plan.now.destination plan.now.edges }
+        ensures { (self.new.entries ≡ sweep plan.now.source plan.now.destination plan.now.tokens plan.now.edges self.old.entries) × (result + total self.new.entries ≡ total self.old.entries) }
+    {
+        let mut drop = 0;
+        for e in 0..usize::from(plan.edges) {
+            let s = usize::from(plan.source[e]);
+            let d = usize::from(plan.destination[e]);
+            let entry = self.entries[d];
+            let lower = entry.min(self.entries[s] + u32::from(plan.tokens[e]));
+            self.entries[d] = lower;
+            drop += entry - lower;
+        }
+        drop
     }
-    Sweep { row: out, drop }
 }
 
 // The tokens of the emptiest route from one node to each: sweeps until nothing changes.
-pub fn emptiest_row<'a>(
-    from: usize,
-    source: &'a [u16; 512],
-    destination: &'a [u16; 512],
-    tokens: &'a [u16; 512],
-    edges: usize,
-) -> [u32; 64]
-    requires { (from < 64) × (edges ≤ 512) × EndsInRow source.now destination.now edges }
-    ensures { result ≡ emptiest_row source.now destination.now tokens.now edges from }
+pub fn emptiest_row(plan: &Plan, from: usize) -> Row
+    requires { (from < 64) × (plan.now.edges ≤ 512) × EndsInRow plan.now.source plan.now.destination plan.now.edges }
+    ensures { result.entries ≡ emptiest_row plan.now.source plan.now.destination plan.now.tokens plan.now.edges from }
 {
-    let mut row = [NO_ROUTE; 64];
-    row[from] = 0;
-    loop {
-        let sweep = relax_sweep(row, source, destination, tokens, edges);
-        row = sweep.row;
-        if sweep.drop == 0 {
-            return row;
-        }
-    }
+    let mut row = Row {
+        entries: [NO_ROUTE; 64],
+    };
+    row.entries[from] = 0;
+    while row.relax_sweep(plan) != 0 {}
+    row
 }

@@ -1,5 +1,8 @@
 #![tactic(auto)]
 // Where each node stands: its order position, its process, and whether an edge's ends are in different processes.
+// Bounds of counts stay in each `requires`: a type that held them all would ask more of a caller than each function asks.
+// `as` stands where std has no `From`: for a number that is proved to fit the smaller type.
+// A synchronising edge is 1 and another 0, bytes, as rows of these are stored as a state's marks, which are bytes for C.
 ghost use Rattle.std.specs.Prelude.{◌≡◌, ◌<◌, ◌≤◌};
 ghost use Rattle.loops.specs.Choice.{at};
 ghost use Rattle.loops.specs.Table.{padded};
@@ -8,116 +11,86 @@ ghost use Rattle.plan.specs.Tests.{stands_at, order_position, home_of, different
 ghost use Rattle.seats.specs.Housed.{ended};
 ghost use Rattle.seats.specs.Crossing.{crosses, EndsOk};
 
+use plan::Plan;
+
 // A node stands at an order position.
-fn stands_at(order: &[u16; 64], v: usize, i: usize) -> bool
+#[tactic(auto, unfolding(plan::specs::Tests::stands_at))]
+fn stands_at(plan: &Plan, v: usize, i: usize) -> bool
     requires { i < 64 }
-    ensures { result ≡ stands_at order.now v i }
+    ensures { result ≡ stands_at plan.now.order v i }
 {
-    numerals::to_index(order[i]) == v
+    usize::from(plan.order[i]) == v
 }
 
-// The order position of a node, or the number of nodes where it has none.
-pub fn order_position_of(order: &[u16; 64], nodes: usize, v: usize) -> usize
-    requires { nodes ≤ 64 }
-    ensures { result ≡ order_position order.now nodes v }
+// The order position of a node, or the number of nodes where it has none: a number in both cases, as the rule has it (`order_position`).
+pub fn order_position_of(plan: &Plan, v: usize) -> usize
+    requires { plan.now.nodes ≤ 64 }
+    ensures { result ≡ order_position plan.now.order plan.now.nodes v }
 {
-    let mut i: usize = 0;
-    while i < nodes {
-        if stands_at(order, v, i) {
-            return i;
-        }
-        i += 1;
-    }
-    i
+    let nodes = usize::from(plan.nodes);
+    (0..nodes).find(|i| stands_at(plan, v, *i)).unwrap_or(nodes)
 }
 
 // Process p, which begins at position `start`, is there and ends at or before position i.
-fn ends_by(lengths: &[u16; 64], processes: usize, p: usize, start: usize, i: usize) -> bool
-    requires { (processes ≤ 64) × (start ≤ i) × (i < 64) }
-    ensures { result ≡ ended lengths.now processes p start i }
+#[tactic(auto, using(loops::specs::Choice::ifs), unfolding(crate::specs::Housed::ended, loops::specs::Values::both))]
+fn ends_by(plan: &Plan, p: usize, start: usize, i: usize) -> bool
+    requires { (plan.now.processes ≤ 64) × (start ≤ i) × (i < 64) }
+    ensures { result ≡ ended plan.now.lengths plan.now.processes p start i }
 {
-    if p < processes {
-        numerals::to_index(lengths[p]) <= i - start
-    } else {
-        false
-    }
+    p < usize::from(plan.processes) && usize::from(plan.lengths[p]) <= i - start
 }
 
-// The process of each node, 0 past the count. One pass over positions and processes: each turn goes on to the next process or enters
-// the process of the node at position i.
-pub fn homes<'a>(
-    order: &'a [u16; 64],
-    lengths: &'a [u16; 64],
-    nodes: usize,
-    processes: usize,
-) -> [u16; 64]
-    requires { (nodes ≤ 64) × (processes ≤ 64) × Once (at order.now) nodes }
-    ensures { result ≡ padded (home_of order.now lengths.now nodes processes) 64 nodes }
+// The process of each node, 0 past the count. One pass over positions and processes: each position goes past the processes that end
+// by it and enters the process of its node. The inner `while` counts on from position to position: a `for` would look up the process
+// of each position anew.
+pub fn homes(plan: &Plan) -> [u16; 64]
+    requires { (plan.now.nodes ≤ 64) × (plan.now.processes ≤ 64) × Once (at plan.now.order) plan.now.nodes }
+    ensures { result ≡ padded (home_of plan.now.order plan.now.lengths plan.now.nodes plan.now.processes) 64 plan.now.nodes }
 {
-    let mut table: [u16; 64] = [0; 64];
-    let mut p: usize = 0;
-    let mut start: usize = 0;
-    let mut i: usize = 0;
-    while i < nodes {
-        if ends_by(lengths, processes, p, start, i) {
-            start += numerals::to_index(lengths[p]);
+    let mut table = [0; 64];
+    let mut p = 0;
+    let mut start = 0;
+    for i in 0..usize::from(plan.nodes) {
+        while ends_by(plan, p, start, i) {
+            start += usize::from(plan.lengths[p]);
             p += 1;
-        } else {
-            table[numerals::to_index(order[i])] = p as u16;
-            i += 1;
         }
+        table[usize::from(plan.order[i])] = p as u16;
     }
     table
 }
 
 // An edge's ends are in different processes.
+#[tactic(auto, using(loops::specs::Choice::ifs), unfolding(plan::specs::Tests::different))]
 pub fn synchronising(homes: &[u16; 64], source: usize, destination: usize) -> bool
     requires { (source < 64) × (destination < 64) }
     ensures { result ≡ different homes.now source destination }
 {
-    if homes[source] == homes[destination] {
-        false
-    } else {
-        true
-    }
+    homes[source] != homes[destination]
 }
 
 // 1 where an edge's ends are in different processes, else 0.
-fn crossing_at<'a>(
-    homes: &'a [u16; 64],
-    source: &'a [u16; 512],
-    destination: &'a [u16; 512],
-    e: usize,
-) -> u8
-    requires { (e < 512) × (at source.now e < 64) × (at destination.now e < 64) }
-    ensures { result ≡ crosses homes.now source.now destination.now e }
+#[tactic(auto, using(loops::specs::Choice::ifs), unfolding(crate::specs::Crossing::crosses, loops::specs::Values::one_if))]
+fn crossing_at(plan: &Plan, homes: &[u16; 64], e: usize) -> u8
+    requires { (e < 512) × (at plan.now.source e < 64) × (at plan.now.destination e < 64) }
+    ensures { result ≡ crosses homes.now plan.now.source plan.now.destination e }
 {
-    if synchronising(
+    u8::from(synchronising(
         homes,
-        numerals::to_index(source[e]),
-        numerals::to_index(destination[e]),
-    ) {
-        1
-    } else {
-        0
-    }
+        usize::from(plan.source[e]),
+        usize::from(plan.destination[e]),
+    ))
 }
 
 // For each edge 1 where it is synchronising, else 0.
-pub fn crossing_row<'a>(
-    homes: &'a [u16; 64],
-    source: &'a [u16; 512],
-    destination: &'a [u16; 512],
-    edges: usize,
-) -> [u8; 512]
-    requires { EndsOk source.now destination.now edges }
-    ensures { result ≡ padded (crosses homes.now source.now destination.now) 512 edges }
+#[tactic(auto, using(loops::specs::Table::fills))]
+pub fn crossing_row(plan: &Plan, homes: &[u16; 64]) -> [u8; 512]
+    requires { EndsOk plan.now.source plan.now.destination plan.now.edges }
+    ensures { result ≡ padded (crosses homes.now plan.now.source plan.now.destination) 512 plan.now.edges }
 {
-    let mut row: [u8; 512] = [0; 512];
-    let mut e: usize = 0;
-    while e < edges {
-        row[e] = crossing_at(homes, source, destination, e);
-        e += 1;
+    let mut row = [0; 512];
+    for e in 0..usize::from(plan.edges) {
+        row[e] = crossing_at(plan, homes, e);
     }
     row
 }

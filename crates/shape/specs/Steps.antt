@@ -2,12 +2,11 @@
 use Rattle.std.specs.Prelude.{ℕ, ◌≡◌, Bool, true, false}
 use Rattle.std.proofs.Math.Path.{sym}
 use Rattle.std.proofs.Common.{ap, ◌∙◌}
-use Rattle.loops.specs.Choice.{if_yes, if_no}
+use Rattle.loops.specs.Choice.{if_yes, if_no, if_false}
 use Rattle.plan.specs.declared.Plan.{Plan}
 use Rattle.plan.specs.Passed.{counts_test}
-use Rattle.plan.specs.Tests.{q_fits, plan_fits}
-use Rattle.entries.specs.declared.Checked.TheVariants.{Passed, Refused}
-use Rattle.entries.specs.Answer.{tables_answer, after_tables}
+use Rattle.plan.specs.Tests.{bad_counts, q_fits, plan_fits}
+use Rattle.entries.specs.Answer.{Passed, Refused, tables_answer, after_tables}
 use Rattle.entries.specs.Laws.{tables_after}
 
 module _ (pl : Plan) where
@@ -27,3 +26,14 @@ module _ (pl : Plan) where
   unfolding plan_fits after_tables
   goes_to_q e t q =
       if_no _ _ _ _ e (q ∙ sym (ap (after_tables (λ k p. false) (q_fits pl)) t) ∙ tables_after (λ k p. false) (q_fits pl) pl)
+
+  -- the same as equations, for `grind`
+  pub fails_at_3 : bad_counts pl.nodes pl.processes pl.edges pl.counters pl.modulus ≡ true → plan_fits pl ≡ false
+  fails_at_3 e = sym (stops_at_3 e)
+
+  pub goes_by_tables : bad_counts pl.nodes pl.processes pl.edges pl.counters pl.modulus ≡ false
+      → plan_fits pl ≡ after_tables (λ number place. false) (q_fits pl) (tables_answer pl)
+  unfolding plan_fits
+  goes_by_tables e = if_false _ _ _ e ∙ sym (tables_after (λ number place. false) (q_fits pl) pl)
+
+pub ruleset steps = (fails_at_3, goes_by_tables)

@@ -1,61 +1,23 @@
 #![tactic(auto)]
-// Whether a plan value is in shape: tests 3 and 5 to 8 pass, and its Q is counter 0's sum and at least 1. Everything is lent.
-ghost use Rattle.std.specs.Prelude.{◌≡◌, ◌≤◌, eqb, leb};
-ghost use Rattle.loops.specs.Choice.{both};
-ghost use Rattle.loops.specs.Sum.{sum};
-ghost use Rattle.plan.specs.Value.{share, plan_with};
-ghost use Rattle.plan.specs.Tests.{plan_fits};
+// Whether a plan value is in shape: tests 3 and 5 to 8 pass, and its Q is counter 0's sum and at least 1. The plan is lent.
+ghost use Rattle.std.specs.Prelude.{◌≡◌, ◌≤◌};
+ghost use Rattle.plan.specs.Tests.{q_fits, plan_fits};
 
-use entries::Checked;
+use plan::Plan;
 
 // Q is counter 0's sum and at least 1.
-fn q_fits<'a>(counter: &'a [u16; 64], increment: &'a [u16; 64], nodes: usize, q: u32) -> bool
-    requires { nodes ≤ 64 }
-    ensures { result ≡ both (eqb (sum (share counter.now increment.now 0) nodes) q) (leb 1 q) }
+#[tactic(auto, using(loops::specs::Choice::ifs), unfolding(plan::specs::Tests::q_fits, plan::specs::Value::counter_sum, loops::specs::Values::both))]
+fn q_fits(plan: &Plan) -> bool
+    requires { plan.now.nodes ≤ 64 }
+    ensures { result ≡ q_fits plan.now }
 {
-    if plan::counter_sum(counter, increment, nodes, 0) == q {
-        1 <= q
-    } else {
-        false
-    }
+    plan.counter_sum(0) == plan.q && 1 <= plan.q
 }
 
 // A plan value in shape: tests 3, 5, 6, 7 and 8 pass on it and its Q is counter 0's sum and at least 1.
-pub fn fits<'a>(
-    nodes: u16,
-    processes: u16,
-    edges: u16,
-    counters: u16,
-    modulus: u32,
-    q: u32,
-    lengths: &'a [u16; 64],
-    order: &'a [u16; 64],
-    counter: &'a [u16; 64],
-    increment: &'a [u16; 64],
-    source: &'a [u16; 512],
-    destination: &'a [u16; 512],
-    tokens: &'a [u16; 512],
-) -> bool
-    ensures { result ≡ plan_fits (plan_with nodes processes edges counters modulus q lengths.now order.now counter.now increment.now source.now destination.now tokens.now) }
+#[tactic(auto, using(plan::specs::Passed::counts_fit, crate::specs::Steps::steps), unfolding(entries::specs::Answer::after_tables))]
+pub fn fits(plan: &Plan) -> bool
+    ensures { result ≡ plan_fits plan.now }
 {
-    if entries::counts_bad(nodes, processes, edges, counters, modulus) {
-        return false;
-    }
-    let checked = entries::tables(
-        nodes as usize,
-        processes as usize,
-        edges as usize,
-        counters as usize,
-        lengths,
-        order,
-        counter,
-        increment,
-        source,
-        destination,
-        tokens,
-    );
-    let Checked::Passed = checked else {
-        return false;
-    };
-    q_fits(counter, increment, nodes as usize, q)
+    !entries::counts_bad(plan.counts()) && entries::tables(plan).is_ok() && q_fits(plan)
 }

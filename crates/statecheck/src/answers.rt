@@ -1,167 +1,104 @@
-// Requests of 13 bytes to the record's end: kind (1 byte: 0 a call, 1 a token reading, else a beginning), code, process and edge (4 each); and
-// the line of each answer.
-ghost use Rattle.std.specs.Prelude.{◌<◌, ◌≤◌};
+// Requests of 13 bytes to the record's end: kind (1 byte), code, process and edge (4 each); and the line of each answer.
 
-use crate::record::{byte_at, number_at, requests_place};
-use crate::text::{put_line, put_word};
-use machine::{Level, Reply, State};
+use crate::record::{byte_at, number_at, requests_in};
+use machine::Done;
 use plan::Plan;
-use std::time::Clock;
+use refusals::{Reason, Request};
+use state::State;
+use std::fmt;
 
-// The state that requests leave, and the offset behind their lines.
-#[derive(Drop)]
-pub struct Answered {
-    pub state: State,
-    pub offset: usize,
+// What a request asks for.
+#[derive(Clone, Copy, Drop)]
+enum Kind {
+    Call,
+    Reading,
+    Beginning,
 }
 
-// A call's answer.
-fn put_reply(
-    rt: &(impl Print + Eprint + Clock),
-    out: &mut [u8; 65536],
-    offset: usize,
-    reply: Reply,
-) -> usize {
+impl From<u8> for Kind {
+    fn from(byte: u8) -> Kind {
+        match byte {
+            0 => Kind::Call,
+            1 => Kind::Reading,
+            _ => Kind::Beginning,
+        }
+    }
+}
+
+// What a call did, or what it was refused with. The words are those of `lines`, which puts them byte by byte as its proof counts them.
+fn put_reply(out: &mut impl fmt::Write, reply: Result<Done, Reason>) -> fmt::Result {
     match reply {
-        Reply::Opened { edges } => put_line(rt, out, offset, b"opened ", edges),
-        Reply::Found { left } => put_line(rt, out, offset, b"found ", left),
-        Reply::Wait { left } => put_line(rt, out, offset, b"wait ", left),
-        Reply::Fired { node } => put_line(rt, out, offset, b"fired ", node),
-        Reply::Refused { number } => put_line(rt, out, offset, b"refused ", number),
+        Ok(Done::Opened { edges }) => writeln!(out, "opened {edges}"),
+        Ok(Done::Found { left }) => writeln!(out, "found {left}"),
+        Ok(Done::Wait { left }) => writeln!(out, "wait {left}"),
+        Ok(Done::Fired { node }) => writeln!(out, "fired {node}"),
+        Err(reason) => put_refusal(out, reason),
     }
 }
 
 // A token reading's answer.
-fn put_level(
-    rt: &(impl Print + Eprint + Clock),
-    out: &mut [u8; 65536],
-    offset: usize,
-    level: Level,
-) -> usize {
+fn put_level(out: &mut impl fmt::Write, level: Result<u32, Reason>) -> fmt::Result {
     match level {
-        Level::Tokens { count } => put_line(rt, out, offset, b"tokens ", count),
-        Level::Unread { number } => put_line(rt, out, offset, b"refused ", number),
+        Ok(count) => writeln!(out, "tokens {count}"),
+        Err(reason) => put_refusal(out, reason),
     }
 }
 
-// A beginning's answer.
-fn put_began(
-    rt: &(impl Print + Eprint + Clock),
-    out: &mut [u8; 65536],
-    offset: usize,
-    number: u32,
-) -> usize {
+// A beginning's answer: 0, or the number that it is refused with.
+fn put_began(out: &mut impl fmt::Write, number: u32) -> fmt::Result {
     if number == 0 {
-        return put_word(rt, out, offset, b"begun\n");
+        return writeln!(out, "begun");
     }
-    put_line(rt, out, offset, b"refused ", number)
+    writeln!(out, "refused {number}")
 }
 
-// A call.
-fn put_call(
-    rt: &(impl Print + Eprint + Clock),
-    plan: Plan,
-    state: State,
-    record: &[u8; 65536],
-    at: usize,
-    out: &mut [u8; 65536],
-    offset: usize,
-) -> Answered
-    requires { at < 65536 }
-{
-    let code = number_at(record, at + 1);
-    let process = number_at(record, at + 5);
-    let edge = number_at(record, at + 9);
-    let turned = calls::step(plan, state, code, process, edge);
-    let reply = turned.reply;
-    let after = turned.state;
-    Answered {
-        state: after,
-        offset: put_reply(rt, out, offset, reply),
-    }
+// A refusal, by its number.
+fn put_refusal(out: &mut impl fmt::Write, reason: Reason) -> fmt::Result {
+    let number = u32::from(reason);
+    writeln!(out, "refused {number}")
 }
 
-// A token reading.
-fn put_reading(
-    rt: &(impl Print + Eprint + Clock),
-    plan: Plan,
-    state: State,
-    record: &[u8; 65536],
-    at: usize,
-    out: &mut [u8; 65536],
-    offset: usize,
-) -> Answered
-    requires { at < 65536 }
-{
-    let level = calls::token_reading(plan, state, number_at(record, at + 9));
-    let after = state;
-    Answered {
-        state: after,
-        offset: put_level(rt, out, offset, level),
-    }
-}
-
-// A beginning.
-fn put_beginning(
-    rt: &(impl Print + Eprint + Clock),
-    plan: Plan,
-    out: &mut [u8; 65536],
-    offset: usize,
-) -> Answered {
-    let began = calls::begin(plan);
-    let after = began.state;
-    Answered {
-        state: after,
-        offset: put_began(rt, out, offset, began.number),
-    }
-}
-
-// One request.
+// One request: its line, and the state that it leaves.
 fn put_request(
-    rt: &(impl Print + Eprint + Clock),
+    out: &mut impl fmt::Write,
     plan: Plan,
     state: State,
-    record: &[u8; 65536],
-    at: usize,
-    out: &mut [u8; 65536],
-    offset: usize,
-) -> Answered
-    requires { at < 65536 }
-{
-    let kind = byte_at(record, at);
-    if kind == 0 {
-        return put_call(rt, plan, state, record, at, out, offset);
+    request: &[u8],
+) -> Result<State, fmt::Error> {
+    let edge = number_at(request, 9);
+    match Kind::from(byte_at(request, 0)) {
+        Kind::Call => {
+            let call = Request {
+                code: number_at(request, 1),
+                process: number_at(request, 5),
+                edge,
+            };
+            let turned = calls::step(plan, state, call);
+            put_reply(out, turned.reply)?;
+            Ok(turned.state)
+        }
+        Kind::Reading => {
+            put_level(out, calls::token_reading(plan, state, edge))?;
+            Ok(state)
+        }
+        Kind::Beginning => {
+            let began = calls::begin(plan);
+            put_began(out, began.number)?;
+            Ok(began.state)
+        }
     }
-    if kind == 1 {
-        return put_reading(rt, plan, state, record, at, out, offset);
-    }
-    put_beginning(rt, plan, out, offset)
 }
 
-// All requests of a record.
+// All requests of a record, and the state that they leave.
 pub fn put_requests(
-    rt: &(impl Print + Eprint + Clock),
+    out: &mut impl fmt::Write,
     plan: Plan,
     begun: State,
-    record: &[u8; 65536],
-    length: usize,
-    out: &mut [u8; 65536],
-    offset: usize,
-) -> Answered
-    requires { length ≤ 65536 }
-{
+    record: &[u8],
+) -> Result<State, fmt::Error> {
     let mut state = begun;
-    let mut next = offset;
-    let mut at = requests_place(record);
-    while at < length {
-        let answered = put_request(rt, plan, state, record, at, out, next);
-        next = answered.offset;
-        state = answered.state;
-        at += 13;
+    for request in requests_in(record).chunks(13) {
+        state = put_request(out, plan, state, request)?;
     }
-    let after = state;
-    Answered {
-        state: after,
-        offset: next,
-    }
+    Ok(state)
 }

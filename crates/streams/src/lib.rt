@@ -1,13 +1,13 @@
 #![tactic(auto)]
 // Reading and writing for programs that never take an error for the end of the input or for success. A call that a signal interrupts, and
 // one that a non-blocking stream answers with "try again", is tried again; one that moves a part of the bytes is continued.
-ghost use Rattle.std.specs.Prelude.{◌≡◌, ◌↔◌, ◌⊎◌, length, IfOk, IsTrue, OnOk, OnErr};
-ghost use Rattle.std.specs.Bool.{OnTrue, OnFalse};
+// `as` stands where std has no `From`: a `usize` from a `u32`, or a number that is proved to fit the smaller type.
+ghost use Rattle.std.specs.Prelude.{◌≡◌, ◌↔◌, ◌⊎◌, IfOk, IfSome, IsErr, IsTrue, MatchResult, OnOk, OnErr, OnSome, length};
 ghost use Rattle.std.specs.Counts.{IsPrefixLen};
 ghost use Rattle.std.specs.Io.{ReadsAtMost};
-ghost use Rattle.std.specs.Io.KnownBytes.{Appends, Keeps, ReadConsumes, WriteAppends};
+ghost use Rattle.std.specs.Io.KnownBytes.{Appends, Consumes, Keeps, ReadConsumes, WriteAppends};
 ghost use Rattle.std.specs.IoError.{error_kind};
-ghost use Rattle.streams.specs.Held.{AppendsPart, Held, Reads, Takes, answered, number};
+ghost use Rattle.streams.specs.Held.{AppendsPart, Held, Takes, TakesNumber, Tried};
 
 #[cfg(test)]
 mod tests;
@@ -18,11 +18,21 @@ use std::io::{ErrorKind, Read, Write};
 use std::time::{Clock, Duration};
 use std::{fmt, io, thread};
 
-// How many bytes were moved, or that a call failed.
-#[derive(Drop)]
-pub enum Got {
-    Bytes { count: usize },
-    Failed,
+// A call failed, and one line on standard error told it.
+#[derive(Clone, Copy, Debug, Drop, PartialEq, Eq)]
+pub struct Told;
+
+impl From<Told> for fmt::Error {
+    fn from(_: Told) -> fmt::Error {
+        fmt::Error
+    }
+}
+
+// Room for so many bytes.
+pub fn room<const N: usize>() -> [u8; N]
+    ensures { length result ≡ N }
+{
+    [0; N]
 }
 
 // How often a stream that is not ready is tried again before it counts as failed.
@@ -40,17 +50,18 @@ fn pause(clock: &impl Clock) {
     thread::sleep(clock, Duration::from_millis(1));
 }
 
-// What a call on these bytes answered: an error is a failure, and nothing else is.
-fn counted(answer: &io::Result<usize>, bytes: &[u8]) -> Got
-    ensures value { result ≡ answered (number answer.now) (length bytes.now) }
-    ensures held { Held result bytes.now }
+// Calls again while the stream is not ready: the answer of the last call.
+fn tried<T, C: FnMut() -> io::Result<T>>(clock: &impl Clock, call: &mut C) -> io::Result<T>
+    requires { C.IsAlwaysCallable call.old }
+    ensures { Tried C.step call.old result call.new }
 {
-    match answer {
-        Ok(count) => Got::Bytes {
-            count: bytes.len().min(*count),
-        },
-        Err(_) => Got::Failed,
+    for _ in 0..TRIES {
+        match call() {
+            Err(error) if not_ready(&error) => pause(clock),
+            answer => return answer,
+        }
     }
+    call()
 }
 
 // One read that moves bytes, fails, or finds the end of the input: 0 bytes.
@@ -58,19 +69,14 @@ fn read_part<I: Read>(clock: &impl Clock, input: &mut I, part: &mut [u8]) -> io:
     ensures bound { ReadsAtMost result part.new }
     ensures bytes { ReadConsumes (I.remaining input.old) (I.remaining input.new) result part.new }
 {
-    for _ in 0..TRIES {
-        match input.read(part) {
-            Err(error) if not_ready(&error) => pause(clock),
-            answer => return answer,
-        }
-    }
-    input.read(part)
+    tried(clock, &mut || input.read(part))
 }
 
 // Reads the input until the buffer is full or the input ends. Fewer bytes than the buffer has are there only at the end of the input.
+// A `while`, as it goes on by what was moved: std's `read_exact` tries nothing again and does not say what it read before an error.
 fn read_bytes<I: Read>(clock: &impl Clock, input: &mut I, buffer: &mut [u8]) -> io::Result<usize>
     ensures bound { ReadsAtMost result buffer.new }
-    ensures bytes { Reads (I.remaining input.old) (I.remaining input.new) result buffer.new }
+    ensures bytes { Takes (I.remaining input.old) (I.remaining input.new) result buffer.new }
 {
     let mut done: usize = 0;
     while done < buffer.len() {
@@ -88,29 +94,18 @@ fn write_part<O: Write>(clock: &impl Clock, output: &mut O, part: &[u8]) -> io::
     ensures bound { IfOk result (λ count. IsPrefixLen count part.now) }
     ensures bytes { WriteAppends (O.contents output.old) (O.contents output.new) result part.now }
 {
-    for _ in 0..TRIES {
-        match output.write(part) {
-            Err(error) if not_ready(&error) => pause(clock),
-            answer => return answer,
-        }
-    }
-    output.write(part)
+    tried(clock, &mut || output.write(part))
 }
 
 // Lets go of what the output may hold back.
 fn flush<O: Write>(clock: &impl Clock, output: &mut O) -> io::Result<()>
     ensures { Keeps (O.contents output.old) (O.contents output.new) }
 {
-    for _ in 0..TRIES {
-        match output.flush() {
-            Err(error) if not_ready(&error) => pause(clock),
-            answer => return answer,
-        }
-    }
-    output.flush()
+    tried(clock, &mut || output.flush())
 }
 
 // Writes all of a text: an error where a write fails or takes nothing, when a part of the text may have been written.
+// A `while`, as it goes on by what was moved: std's `write_all` tries nothing again.
 fn write_bytes<O: Write>(clock: &impl Clock, output: &mut O, text: &[u8]) -> io::Result<()>
     ensures ok { OnOk result (Appends (O.contents output.old) (O.contents output.new) text.now) }
     ensures err { OnErr result (AppendsPart (O.contents output.old) (O.contents output.new) text.now) }
@@ -126,7 +121,7 @@ fn write_bytes<O: Write>(clock: &impl Clock, output: &mut O, text: &[u8]) -> io:
     flush(clock, output)
 }
 
-// What a call's error is told by: these words and the system's reason.
+// What a call's error is told by: these words and the system's reason. The words are bytes, so that callers may pass any.
 #[derive(Clone, Copy)]
 struct Line<'a> {
     words: &'a [u8],
@@ -155,6 +150,16 @@ fn tell(rt: &impl Eprint, words: &[u8], error: &io::Error) {
     let _ = rt.eprintln(Line { words, error });
 }
 
+// What a call answered: an error is a failure, which is told, and nothing else is.
+fn answered<T>(rt: &impl Eprint, answer: io::Result<T>, words: &[u8]) -> Result<T, Told>
+    ensures { MatchResult answer (λ value. result ≡ Ok value) (λ _. IsErr result) }
+{
+    answer.map_err(|error| {
+        tell(rt, words, &error);
+        Told
+    })
+}
+
 // Reads the input until the buffer is full or the input ends. Where a read fails, one line on standard error has these words and the system's
 // reason.
 pub fn read_all<I: Read>(
@@ -162,33 +167,54 @@ pub fn read_all<I: Read>(
     input: &mut I,
     buffer: &mut [u8],
     words: &[u8],
-) -> Got
+) -> Result<usize, Told>
     ensures held { Held result buffer.new }
     ensures bytes { Takes (I.remaining input.old) (I.remaining input.new) result buffer.new }
 {
     let answer = read_bytes(rt, input, buffer);
-    if let Err(error) = &answer {
-        tell(rt, words, error);
-    }
-    counted(&answer, buffer)
+    answered(rt, answer, words)
 }
 
-// Writes all of a text to the output. Where a write fails, one line on standard error has these words and the system's reason, and the answer
-// is false.
+// Writes all of a text to the output. Where a write fails, one line on standard error has these words and the system's reason.
 pub fn write_all<O: Write>(
     rt: &(impl Clock + Eprint),
     output: &mut O,
     text: &[u8],
     words: &[u8],
-) -> bool
-    ensures written { OnTrue result (Appends (O.contents output.old) (O.contents output.new) text.now) }
-    ensures part { OnFalse result (AppendsPart (O.contents output.old) (O.contents output.new) text.now) }
+) -> Result<(), Told>
+    ensures written { OnOk result (Appends (O.contents output.old) (O.contents output.new) text.now) }
+    ensures part { OnErr result (AppendsPart (O.contents output.old) (O.contents output.new) text.now) }
 {
-    match write_bytes(rt, output, text) {
-        Ok(()) => true,
-        Err(error) => {
-            tell(rt, words, &error);
-            false
-        }
+    let answer = write_bytes(rt, output, text);
+    answered(rt, answer, words)
+}
+
+// Reads the input until the buffer is full. None where the input ends before that or a read fails, which is told.
+pub fn fill<I: Read>(
+    rt: &(impl Clock + Eprint),
+    input: &mut I,
+    buffer: &mut [u8],
+    words: &[u8],
+) -> Option<()>
+    ensures { OnSome result (Consumes (I.remaining input.old) (I.remaining input.new) buffer.new) }
+{
+    let count = read_all(rt, input, buffer, words).ok()?;
+    if count < buffer.len() {
+        return None;
     }
+    Some(())
+}
+
+// The length in front of a record of a stream: four bytes, the lower byte first. None where the stream ends before it or in it, or a read fails,
+// which is told.
+pub fn next_length<I: Read>(
+    rt: &(impl Clock + Eprint),
+    input: &mut I,
+    words: &[u8],
+) -> Option<usize>
+    ensures { IfSome result (λ length. TakesNumber (I.remaining input.old) (I.remaining input.new) length) }
+{
+    let mut bytes = [0u8; 4];
+    fill(rt, input, &mut bytes, words)?;
+    Some(u32::from_le_bytes(bytes) as usize)
 }

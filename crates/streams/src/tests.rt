@@ -55,7 +55,7 @@ fn reads_on(rt: HostRuntime) -> Result<(), Fail> {
     };
     let mut buffer = [0u8; 10];
     let got = read_all(&rt, &mut input, &mut buffer, b"test");
-    assert!(rt; matches!(got, Got::Bytes { count: 4 }));
+    assert!(rt; matches!(got, Ok(4)));
     assert_eq!(rt; buffer, *b"aaaa\0\0\0\0\0\0");
     assert_eq!(rt; input.calls, 5);
     Ok(())
@@ -74,9 +74,9 @@ fn fails_in_mid_stream(rt: HostRuntime) {
         };
         let mut buffer = [0u8; 10];
         let got = read_all(&rt, &mut input, &mut buffer[..length], b"test");
-        assert_eq!(rt; matches!(got, Got::Failed), length == 5);
+        assert_eq!(rt; matches!(got, Err(Told)), length == 5);
         assert_eq!(rt;
-            write_all(&rt, &mut output, &buffer[..length], b"test"),
+            write_all(&rt, &mut output, &buffer[..length], b"test").is_ok(),
             length < 5
         );
     }

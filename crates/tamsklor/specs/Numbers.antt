@@ -2,15 +2,15 @@
 -- Definitions only. Assumes nothing.
 use Rattle.std.specs.Prelude.{◌≡◌, ℕ, ◌+◌, ◌*◌}
 use Rattle.plan.specs.declared.Plan.{Plan}
-use Rattle.judge.specs.declared.Answer.{Answer}
-use Rattle.judge.specs.declared.Answer.TheVariants.{Accepted, Refused}
-use Rattle.reader.specs.declared.ReadPlan.{ReadPlan}
-use Rattle.machine.specs.declared.State.{State}
-use Rattle.machine.specs.declared.Began.{Began}
-use Rattle.machine.specs.declared.Reply.{Reply}
-use Rattle.machine.specs.declared.Reply.TheVariants as reply
-use Rattle.machine.specs.declared.Level.{Level}
-use Rattle.machine.specs.declared.Level.TheVariants.{Tokens, Unread}
+use Rattle.judge.specs.Answer.{Answer}
+use Rattle.judge.specs.Answer.{Accepted, Refused}
+use Rattle.reader.specs.Answer.{ReadPlan}
+use Rattle.state.specs.declared.State.{State}
+use Rattle.machine.specs.Answers.{Began}
+use Rattle.machine.specs.Answers.{Reply}
+use Rattle.machine.specs.Answers as reply
+use Rattle.machine.specs.Answers.{Level}
+use Rattle.machine.specs.Answers.{Tokens, Unread}
 use Rattle.machine.specs.Calls.{step_call}
 use Rattle.tamsklor.specs.declared.Outcome.{Outcome}
 use Rattle.tamsklor.specs.declared.Verdict.{Verdict}

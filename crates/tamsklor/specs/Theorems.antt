@@ -3,12 +3,12 @@
 use Rattle.std.specs.Prelude.{◌≡◌, refl, List, ◌≢◌, ℕ}
 use Rattle.std.proofs.Common.{arith}
 use Rattle.plan.specs.declared.Plan.{Plan}
-use Rattle.judge.specs.declared.Answer.{Answer}
-use Rattle.judge.specs.declared.Answer.TheVariants as answer
+use Rattle.judge.specs.Answer.{Answer}
+use Rattle.judge.specs.Answer as answer
 use Rattle.reader.specs.Tests.{verdict, plan_beside, no_plan, read_of}
-use Rattle.machine.specs.declared.State.{State}
-use Rattle.machine.specs.declared.Reply.{Reply}
-use Rattle.machine.specs.declared.Reply.TheVariants.{Opened, Found, Wait, Fired, Refused}
+use Rattle.state.specs.declared.State.{State}
+use Rattle.machine.specs.Answers.{Reply}
+use Rattle.machine.specs.Answers.{Opened, Found, Wait, Fired, Refused}
 use Rattle.machine.specs.Calls.{step_call}
 use Rattle.machine.specs.Runs.{turn, IsRefused}
 use Rattle.machine.specs.Theorems.{refused_unchanged}

@@ -5,7 +5,7 @@ use Rattle.std.proofs.Common.{ap, ◌∙◌}
 use Rattle.plan.specs.declared.Plan.{Plan}
 use Rattle.plan.specs.Unique.{one_answer}
 use Rattle.reader.specs.Tests.{verdict, read_of}
-use Rattle.machine.specs.declared.State.{State}
+use Rattle.state.specs.declared.State.{State}
 use Rattle.machine.specs.Calls.{begin_run, reading_call}
 use Rattle.tamsklor.specs.declared.Verdict.{Verdict}
 use Rattle.tamsklor.specs.declared.PlanRead.{PlanRead}

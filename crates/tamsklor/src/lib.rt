@@ -1,14 +1,19 @@
 #![tactic(auto)]
 // What the recorder's host in C is handed: the plan check, the plan of an image, and a run by single calls. Numbers and arrays only.
 // The crate `tamsklor_c` exports each public function of this one under its own name.
+// C has neither Option nor Result, so a number 0 says that nothing was refused, and a kind says what a call did.
 ghost use Rattle.std.specs.Prelude.{◌≡◌};
+ghost use Rattle.judge.specs.Answer.{answered};
 ghost use Rattle.reader.specs.Tests.{verdict, read_of};
+ghost use Rattle.machine.specs.Answers.{replied, level_of};
 ghost use Rattle.machine.specs.Calls.{begin_run, step_call, reading_call};
 ghost use Rattle.tamsklor.specs.Numbers.{outcome, numbers_of, numbers_of_read, numbers_of_begin, numbers_of_reply, numbers_of_level, version};
 
-use judge::Answer;
-use machine::{Level, Reply, State};
-use plan::Plan;
+use judge::Acceptance;
+use machine::Done;
+use plan::{Plan, Refusal};
+use refusals::{Reason, Request};
+use state::State;
 
 // The plan check's answer: the refusal's number (0: accepted), its place, and the least modulus (0 after a refusal).
 #[repr(C)]
@@ -53,6 +58,9 @@ pub struct Stepped {
     pub state: State,
 }
 
+// What stands for the least modulus after a refusal.
+const NO_LEAST: u32 = 0;
+
 // A token reading's answer: the refusal's number (0: read) and the tokens (0 after a refusal).
 #[repr(C)]
 #[derive(Clone, Copy)]
@@ -60,9 +68,6 @@ pub struct TokenAnswer {
     pub number: u32,
     pub count: u32,
 }
-
-// What stands for the least modulus after a refusal.
-const NO_LEAST: u32 = 0;
 
 // Number and place of an answer, both 0 for an accepted plan.
 #[derive(Clone, Copy)]
@@ -72,53 +77,87 @@ struct Outcome {
 }
 
 // The number and the place of an answer.
-fn outcome_of(answer: Answer) -> Outcome
-    ensures { result ≡ outcome answer }
+#[tactic(auto, unfolding(crate::specs::Numbers::outcome))]
+fn outcome_of(answer: Result<Acceptance, Refusal>) -> Outcome
+    ensures { result ≡ outcome (answered answer) }
 {
-    let Answer::Refused { number, place } = answer else {
+    let Err(refusal) = answer else {
         return Outcome {
             number: 0,
             place: 0,
         };
     };
-    Outcome { number, place }
-}
-
-// A call's reply as two numbers.
-fn as_call_answer(reply: Reply) -> CallAnswer
-    ensures { result ≡ numbers_of_reply reply }
-{
-    match reply {
-        Reply::Opened { edges } => CallAnswer {
-            kind: 1,
-            value: edges,
-        },
-        Reply::Found { left } => CallAnswer {
-            kind: 2,
-            value: left,
-        },
-        Reply::Wait { left } => CallAnswer {
-            kind: 3,
-            value: left,
-        },
-        Reply::Fired { node } => CallAnswer {
-            kind: 4,
-            value: node,
-        },
-        Reply::Refused { number } => CallAnswer {
-            kind: 0,
-            value: number,
-        },
+    Outcome {
+        number: u32::from(refusal.test),
+        place: refusal.place,
     }
 }
 
-// A token reading as two numbers.
-fn as_token_answer(level: Level) -> TokenAnswer
-    ensures { result ≡ numbers_of_level level }
-{
-    match level {
-        Level::Tokens { count } => TokenAnswer { number: 0, count },
-        Level::Unread { number } => TokenAnswer { number, count: 0 },
+impl From<Result<Acceptance, Refusal>> for Verdict {
+    ghost from_gives = { λ answer v. v ≡ numbers_of (answered answer) };
+
+    // The reader's answer as numbers: takes the accepted numbers out of it, or turns at once to the refusal.
+    fn from(answer: Result<Acceptance, Refusal>) -> Verdict {
+        let outcome = outcome_of(answer);
+        let Ok(accepted) = answer else {
+            return Verdict {
+                number: outcome.number,
+                place: outcome.place,
+                least: NO_LEAST,
+            };
+        };
+        Verdict {
+            number: outcome.number,
+            place: outcome.place,
+            least: accepted.least,
+        }
+    }
+}
+
+impl From<Result<Done, Reason>> for CallAnswer {
+    ghost from_gives = { λ reply a. a ≡ numbers_of_reply (replied reply) };
+
+    // A call's answer as two numbers.
+    fn from(reply: Result<Done, Reason>) -> CallAnswer {
+        match reply {
+            Ok(done) => match done {
+                Done::Opened { edges } => CallAnswer {
+                    kind: 1,
+                    value: edges,
+                },
+                Done::Found { left } => CallAnswer {
+                    kind: 2,
+                    value: left,
+                },
+                Done::Wait { left } => CallAnswer {
+                    kind: 3,
+                    value: left,
+                },
+                Done::Fired { node } => CallAnswer {
+                    kind: 4,
+                    value: node,
+                },
+            },
+            Err(reason) => CallAnswer {
+                kind: 0,
+                value: u32::from(reason),
+            },
+        }
+    }
+}
+
+impl From<Result<u32, Reason>> for TokenAnswer {
+    ghost from_gives = { λ level a. a ≡ numbers_of_level (level_of level) };
+
+    // A token reading as two numbers.
+    fn from(level: Result<u32, Reason>) -> TokenAnswer {
+        match level {
+            Ok(count) => TokenAnswer { number: 0, count },
+            Err(reason) => TokenAnswer {
+                number: u32::from(reason),
+                count: 0,
+            },
+        }
     }
 }
 
@@ -126,11 +165,15 @@ fn as_token_answer(level: Level) -> TokenAnswer
 pub fn tamsklor_run_stepped(plan: Plan, state: State, code: u32, process: u32, edge: u32) -> Stepped
     ensures { (result.answer ≡ numbers_of_reply (step_call plan state code process edge).reply) × (result.state ≡ (step_call plan state code process edge).state) }
 {
-    let turned = calls::step(plan, state, code, process, edge);
-    let reply = turned.reply;
+    let request = Request {
+        code,
+        process,
+        edge,
+    };
+    let turned = calls::step(plan, state, request);
     let after = turned.state;
     Stepped {
-        answer: as_call_answer(reply),
+        answer: CallAnswer::from(turned.reply),
         state: after,
     }
 }
@@ -139,26 +182,7 @@ pub fn tamsklor_run_stepped(plan: Plan, state: State, code: u32, process: u32, e
 pub fn tamsklor_plan_check(image: &[u8]) -> Verdict
     ensures { result ≡ numbers_of (verdict image.now) }
 {
-    let reading = reader::read(image);
-    let answer = reading.answer;
-    let outcome = outcome_of(answer);
-    let Answer::Accepted {
-        q: _,
-        modulus: _,
-        least,
-    } = answer
-    else {
-        return Verdict {
-            number: outcome.number,
-            place: outcome.place,
-            least: NO_LEAST,
-        };
-    };
-    Verdict {
-        number: outcome.number,
-        place: outcome.place,
-        least,
-    }
+    Verdict::from(reader::read(image).answer)
 }
 
 // The plan of an image beside the plan check's numbers; all 0 after a refusal.
@@ -166,27 +190,12 @@ pub fn tamsklor_plan_read(image: &[u8]) -> PlanRead
     ensures { result ≡ numbers_of_read (read_of image.now) }
 {
     let reading = reader::read(image);
-    let answer = reading.answer;
-    let plan = reading.plan;
-    let numbers = outcome_of(answer);
-    let Answer::Accepted {
-        q: _,
-        modulus: _,
-        least,
-    } = answer
-    else {
-        return PlanRead {
-            number: numbers.number,
-            place: numbers.place,
-            least: NO_LEAST,
-            plan,
-        };
-    };
+    let numbers = Verdict::from(reading.answer);
     PlanRead {
         number: numbers.number,
         place: numbers.place,
-        least,
-        plan,
+        least: numbers.least,
+        plan: reading.plan,
     }
 }
 
@@ -203,16 +212,16 @@ fn begin_by_value(plan: Plan) -> Begun
 }
 
 // Beginning a run of the host's plan.
-pub fn tamsklor_run_begin<'a>(plan: &'a Plan) -> Begun
+pub fn tamsklor_run_begin(plan: &Plan) -> Begun
     ensures { result ≡ numbers_of_begin (begin_run plan.now) }
 {
     begin_by_value(*plan)
 }
 
-// One call on the host's one state, updated where it stands: open, look or fire by its code.
-pub fn tamsklor_run_step<'a, 'b>(
-    plan: &'a Plan,
-    state: &'b mut State,
+// One call on the host's one state, updated where it stands: open, look or fire by its code. A thin call of the one by value.
+pub fn tamsklor_run_step(
+    plan: &Plan,
+    state: &mut State,
     code: u32,
     process: u32,
     edge: u32,
@@ -228,11 +237,11 @@ pub fn tamsklor_run_step<'a, 'b>(
 fn tokens_by_value(plan: Plan, state: State, edge: u32) -> TokenAnswer
     ensures { result ≡ numbers_of_level (reading_call plan state edge) }
 {
-    as_token_answer(calls::token_reading(plan, state, edge))
+    TokenAnswer::from(calls::token_reading(plan, state, edge))
 }
 
 // The token reading of an edge on the host's plan and state. Neither is changed.
-pub fn tamsklor_run_tokens<'a, 'b>(plan: &'a Plan, state: &'b State, edge: u32) -> TokenAnswer
+pub fn tamsklor_run_tokens(plan: &Plan, state: &State, edge: u32) -> TokenAnswer
     ensures { result ≡ numbers_of_level (reading_call plan.now state.now edge) }
 {
     tokens_by_value(*plan, *state, edge)

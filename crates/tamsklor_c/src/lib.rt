@@ -5,8 +5,8 @@ ghost use Rattle.reader.specs.Tests.{verdict, read_of};
 ghost use Rattle.machine.specs.Calls.{begin_run, step_call, reading_call};
 ghost use Rattle.tamsklor.specs.Numbers.{numbers_of, numbers_of_read, numbers_of_begin, numbers_of_reply, numbers_of_level, version};
 
-use machine::State;
 use plan::Plan;
+use state::State;
 use tamsklor::{Begun, CallAnswer, PlanRead, Stepped, TokenAnswer, Verdict};
 
 // The plan check over the image's bytes.
@@ -27,7 +27,7 @@ pub extern "C" fn tamsklor_plan_read(image: &[u8]) -> PlanRead
 
 // Beginning a run of the host's plan.
 #[unsafe(no_mangle)]
-pub extern "C" fn tamsklor_run_begin<'a>(plan: &'a Plan) -> Begun
+pub extern "C" fn tamsklor_run_begin(plan: &Plan) -> Begun
     ensures { result ≡ numbers_of_begin (begin_run plan.now) }
 {
     tamsklor::tamsklor_run_begin(plan)
@@ -35,9 +35,9 @@ pub extern "C" fn tamsklor_run_begin<'a>(plan: &'a Plan) -> Begun
 
 // One call on the host's one state, updated where it stands: open, look or fire by its code.
 #[unsafe(no_mangle)]
-pub extern "C" fn tamsklor_run_step<'a, 'b>(
-    plan: &'a Plan,
-    state: &'b mut State,
+pub extern "C" fn tamsklor_run_step(
+    plan: &Plan,
+    state: &mut State,
     code: u32,
     process: u32,
     edge: u32,
@@ -63,11 +63,7 @@ pub extern "C" fn tamsklor_run_stepped(
 
 // The token reading of an edge on the host's plan and state. Neither is changed.
 #[unsafe(no_mangle)]
-pub extern "C" fn tamsklor_run_tokens<'a, 'b>(
-    plan: &'a Plan,
-    state: &'b State,
-    edge: u32,
-) -> TokenAnswer
+pub extern "C" fn tamsklor_run_tokens(plan: &Plan, state: &State, edge: u32) -> TokenAnswer
     ensures { result ≡ numbers_of_level (reading_call plan.now state.now edge) }
 {
     tamsklor::tamsklor_run_tokens(plan, state, edge)

@@ -7,16 +7,16 @@ use Rattle.std.proofs.Math.ListN.{length}
 use Rattle.loops.specs.Choice.{if_true, if_false}
 use Rattle.plan.specs.declared.Plan.{Plan}
 use Rattle.plan.specs.Faults.{InShape}
-use Rattle.judge.specs.declared.Answer.{Answer}
-use Rattle.judge.specs.declared.Answer.TheVariants.{Accepted, Refused}
-use Rattle.reader.specs.declared.ReadPlan.{ReadPlan}
+use Rattle.judge.specs.Answer.{Answer}
+use Rattle.judge.specs.Answer.{Accepted, Refused}
+use Rattle.reader.specs.Answer.{ReadPlan}
 use Rattle.numerals.specs.LittleEndian.{four_bytes}
 use Rattle.reader.specs.Tests.{read_of}
 use Rattle.reader.specs.Theorems.{accepted_sound, all_of_the_plan, answer_is}
 use Rattle.reader.specs.Tests.{IsAccepted}
 use Rattle.machine.specs.States.{fresh}
-use Rattle.transcript.specs.declared.Printed.{Printed}
-use Rattle.transcript.specs.declared.Printed.TheVariants.{Whole, TooShort}
+use Rattle.transcript.specs.Text.{Printed}
+use Rattle.transcript.specs.Text.{Whole, TooShort}
 use Rattle.lines.specs.Words.{too_long_line}
 use Rattle.transcript.specs.Text.{calls_text, image_length, text_by, text_read, run_text, text_of, printed, out_after}
 use Rattle.lines.specs.Lines.{plan_line, refusal_text}

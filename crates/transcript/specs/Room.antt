@@ -3,8 +3,8 @@
 use Rattle.std.specs.Prelude.{◌≡◌, List, ◌++◌, false, ℕ, ◌≤◌, ltb, length, drop}
 use Rattle.std.proofs.Common.{◌∙◌, arith, le-ltb}
 use Rattle.loops.specs.Choice.{if_false}
-use Rattle.transcript.specs.declared.Printed.{Printed}
-use Rattle.transcript.specs.declared.Printed.TheVariants.{Whole, TooShort}
+use Rattle.transcript.specs.Text.{Printed}
+use Rattle.transcript.specs.Text.{Whole, TooShort}
 use Rattle.transcript.specs.Text.{text_of, printed, out_after}
 use Rattle.transcript.specs.Printing.{Answers}
 

@@ -9,8 +9,8 @@ use Rattle.loops.specs.Choice.{at, if, if_true, if_false}
 use Rattle.plan.specs.declared.Plan.{Plan}
 use Rattle.plan.specs.Faults.{InShape}
 use Rattle.numerals.specs.LittleEndian.{two_bytes}
-use Rattle.machine.specs.declared.State.{State}
-use Rattle.machine.specs.declared.Turned.{Turned}
+use Rattle.state.specs.declared.State.{State}
+use Rattle.machine.specs.Answers.{Turned}
 use Rattle.machine.specs.States.{fresh, Sized, StateInShape}
 use Rattle.machine.specs.Calls.{both_fit, refused, open_in_shape, look_in_shape, fire_in_shape, step_in_shape, step_call}
 use Rattle.machine.specs.Runs.{Call, turn, replies}

@@ -1,19 +1,18 @@
 -- The whole text that `planrun` prints for an input (01, "The program"), to the last byte. Definitions only.
 -- Assumes nothing.
-use Rattle.std.specs.Prelude.{List, [], ◌∷◌, ◌++◌, ℕ, suc, ◌+◌, ◌*◌, ltb, length, take, drop}
+use Rattle.std.specs.Prelude.{List, [], ◌∷◌, ◌++◌, ℕ, suc, ◌+◌, ◌*◌, ltb, length, take, drop, Result, Ok, Err}
 use Rattle.loops.specs.Choice.{if}
 use Rattle.plan.specs.declared.Plan.{Plan}
-use Rattle.judge.specs.declared.Answer.{Answer}
-use Rattle.judge.specs.declared.Answer.TheVariants as answers
-use Rattle.reader.specs.declared.ReadPlan.{ReadPlan}
+use Rattle.judge.specs.Answer.{Answer}
+use Rattle.judge.specs.Answer as answers
+use Rattle.reader.specs.Answer.{ReadPlan}
 use Rattle.numerals.specs.LittleEndian.{four_bytes}
 use Rattle.reader.specs.Tests.{read_of}
-use Rattle.machine.specs.declared.State.{State}
-use Rattle.machine.specs.declared.Reply.{Reply}
+use Rattle.state.specs.declared.State.{State}
+use Rattle.machine.specs.Answers.{Reply}
 use Rattle.machine.specs.States.{fresh}
 use Rattle.machine.specs.Runs.{Call, replies}
-use Rattle.transcript.specs.declared.Printed.{Printed}
-use Rattle.transcript.specs.declared.Printed.TheVariants.{Whole, TooShort}
+use Rattle.transcript.specs.declared.TooShort as code
 use Rattle.lines.specs.Words.{cut_line, too_long_line}
 use Rattle.lines.specs.Lines.{plan_line, refused_line, line}
 
@@ -66,6 +65,16 @@ unfoldable pub text_of : List ℕ → List ℕ
 text_of input = if (ltb 65536 (length input)) too_long_line (run_text input)
 
 -- ---- the answer
+-- the length of the text that was written, or the length that the buffer is too short for
+pub data Printed : Type 0 where
+  Whole : (length : ℕ) → Printed
+  TooShort : (needed : ℕ) → Printed
+
+-- what the function answers, in those words
+abbrev pub printed_as : Result ℕ code.TooShort → Printed
+printed_as (Ok length) = Whole length
+printed_as (Err short) = TooShort short.needed
+
 -- the text's length, where the buffer has room for it
 unfoldable pub printed : List ℕ → List ℕ → Printed
 printed input out = if (ltb (length out) (length (text_of input))) (TooShort (length (text_of input))) (Whole (length (text_of input)))

@@ -1,22 +1,26 @@
 #![tactic(auto)]
 // The whole text that `planrun` prints for an input: the first line, a line for each call, `cut`; or `too long`.
+// `as` stands where std has no `From`: a `usize` from a `u32`, or a number that is proved to fit the smaller type.
 ghost use Rattle.std.specs.Prelude.{◌≡◌, ◌+◌, ◌<◌, ◌≤◌, length};
-ghost use Rattle.plan.specs.Value.{plan_with};
 ghost use Rattle.plan.specs.Faults.{InShape};
 ghost use Rattle.numerals.specs.LittleEndian.{four_bytes};
-ghost use Rattle.machine.specs.States.{fresh};
-ghost use Rattle.transcript.specs.Text.{calls_text, image_length, run_text, text_of};
+ghost use Rattle.numerals.specs.Texts.{Puts};
 ghost use Rattle.numerals.specs.Writing.{Put};
+ghost use Rattle.machine.specs.States.{fresh};
+ghost use Rattle.transcript.specs.Text.{calls_text, image_length, run_text, text_of, printed_as};
+ghost use Rattle.lines.specs.Words.{too_long_line};
 ghost use Rattle.transcript.specs.Running.{cut_if};
 ghost use Rattle.transcript.specs.Printing.{Answers};
 
-use judge::Answer;
+use numerals::text::Text;
+use plan::Plan;
+use refusals::Request;
+use state::State;
 
-// What `transcript` answers: the length of the text that it wrote, or the length that the buffer is too short for.
-#[derive(Clone, Copy)]
-pub enum Printed {
-    Whole { length: usize },
-    TooShort { needed: usize },
+// A buffer that is too short for the text, which is so long.
+#[derive(Clone, Copy, PartialEq, Eq)]
+pub struct TooShort {
+    pub needed: usize,
 }
 
 // T, the total field.
@@ -24,7 +28,7 @@ fn total_field(input: &[u8]) -> usize
     requires { 36 ≤ length input.now }
     ensures { result ≡ four_bytes input.now 32 }
 {
-    numerals::word_to_index(numerals::quad_at(input, 32))
+    numerals::quad_at(input, 32) as usize
 }
 
 // The image is the first T bytes; the whole input where T is missing, below 36 or beyond the input.
@@ -45,138 +49,91 @@ fn image_length(input: &[u8]) -> usize
 }
 
 // One to three bytes left over print `cut`.
-fn put_left_over(out: &mut [u8], offset: usize, left: usize) -> usize
-    requires { offset < 1000000 }
-    ensures { Put out.old offset (cut_if left) out.new result × (result ≤ offset + 4) }
+fn put_left_over(text: &mut Text, left: usize)
+    requires { text.old.length < 1000000 }
+    ensures { Puts text.old (cut_if left) text.new × (text.new.length ≤ text.old.length + 4) }
 {
-    if left == 0 {
-        return offset;
+    if left != 0 {
+        text.put_word(b"cut\n");
     }
-    numerals::text::put_word(out, offset, b"cut\n")
 }
 
 // The calls of four bytes: code, process, edge (two bytes). The run begins from an accepted plan, fresh; each call keeps the shape, so none is tested.
-fn put_calls<'a>(
-    nodes: u16,
-    processes: u16,
-    edges: u16,
-    counts: u16,
-    modulus: u32,
-    q: u32,
-    lengths: &'a [u16; 64],
-    order: &'a [u16; 64],
-    counter: &'a [u16; 64],
-    increment: &'a [u16; 64],
-    source: &'a [u16; 512],
-    destination: &'a [u16; 512],
-    tokens: &'a [u16; 512],
-    calls: &[u8],
-    out: &mut [u8],
-    offset: usize,
-) -> usize
-    requires { InShape (plan_with nodes processes edges counts modulus q lengths.now order.now counter.now increment.now source.now destination.now tokens.now) × (length calls.now ≤ 65536) × (offset ≤ 38) }
-    ensures { Put out.old offset (calls_text (plan_with nodes processes edges counts modulus q lengths.now order.now counter.now increment.now source.now destination.now tokens.now) fresh 0 calls.now) out.new result × (result ≤ 409642) }
+// (The plan's shape stands in this one contract: a type for it would be no plainer.)
+fn put_calls(text: &mut Text, plan: &Plan, calls: &[u8])
+    requires { InShape plan.now × (length calls.now ≤ 65536) × (text.old.length ≤ 38) }
+    ensures { Puts text.old (calls_text plan.now fresh 0 calls.now) text.new × (text.new.length ≤ 409642) }
 {
-    let mut positions = [0u16; 64];
-    let mut opened = [0u8; 64];
-    let mut marks = [0u8; 32768];
-    let mut counters = [0u32; 64];
-    let mut turn: u32 = 0;
-    let mut next = offset;
-    let mut index: u32 = 0;
-    let mut i: usize = 0;
-    while i + 4 <= calls.len() {
-        let code = numerals::byte_to_word(calls[i]);
-        let process = numerals::byte_to_word(calls[i + 1]);
-        let edge = numerals::to_word(numerals::pair_at(calls, i + 2));
-        let reply = machine::step_in_shape(
-            nodes,
-            processes,
-            edges,
-            counts,
-            modulus,
-            q,
-            lengths,
-            order,
-            counter,
-            increment,
-            source,
-            destination,
-            tokens,
-            &mut positions,
-            &mut opened,
-            &mut marks,
-            &mut counters,
-            &mut turn,
-            code,
-            process,
-            edge,
-        );
-        next = lines::put_line(out, next, index, reply);
-        index += 1;
-        i += 4;
+    let mut state = State::fresh();
+    let count = calls.len() / 4;
+    for index in 0..count {
+        let i = 4 * index;
+        let request = Request {
+            code: u32::from(calls[i]),
+            process: u32::from(calls[i + 1]),
+            edge: u32::from(numerals::pair_at(calls, i + 2)),
+        };
+        let reply = machine::step_in_shape(plan, &mut state, request);
+        lines::put_line(text, index as u32, reply);
     }
-    put_left_over(out, next, calls.len() - i)
+    put_left_over(text, calls.len() - 4 * count);
 }
 
 // The text of an input that is not too long: `plan` Q N least and the calls, or `refused` number place and then nothing more.
-fn put_run(input: &[u8], out: &mut [u8]) -> usize
+fn put_run(out: &mut [u8], input: &[u8]) -> usize
     requires { length input.now ≤ 65536 }
     ensures { Put out.old 0 (run_text input.now) out.new result × (result ≤ 409642) }
 {
     let end = image_length(input);
     let reading = reader::read(&input[..end]);
-    let answer = reading.answer;
-    let plan = reading.plan;
-    let Answer::Accepted { q, modulus, least } = answer else {
-        return lines::put_refusal(out, answer);
+    let Ok(accepted) = reading.answer else {
+        return lines::put_refusal(out, reading.answer);
     };
-    let next = lines::put_plan_line(out, q, modulus, least);
-    put_calls(
-        plan.nodes,
-        plan.processes,
-        plan.edges,
-        plan.counters,
-        plan.modulus,
-        plan.q,
-        &plan.lengths,
-        &plan.order,
-        &plan.counter,
-        &plan.increment,
-        &plan.source,
-        &plan.destination,
-        &plan.tokens,
-        &input[end..],
-        out,
-        next,
-    )
+    let length = lines::put_plan_line(out, accepted);
+    let mut text = Text {
+        buffer: &mut *out,
+        length,
+    };
+    put_calls(&mut text, &reading.plan, &input[end..]);
+    text.length
 }
 
-// The text: with more than 65,536 bytes `too long` only.
-#[tactic(auto, using(crate::specs::Printing::text_long, crate::specs::Printing::text_run))]
-fn put_text(input: &[u8], out: &mut [u8]) -> usize
+// More than 65,536 bytes.
+fn put_too_long(out: &mut [u8]) -> usize
+    ensures { Put out.old 0 too_long_line out.new result × (result ≤ 9) }
+{
+    let mut text = Text {
+        buffer: &mut *out,
+        length: 0,
+    };
+    text.put_word(b"too long\n");
+    text.length
+}
+
+// The text in a buffer from its start, and how long it is: what the buffer has no room for is counted and not written. With more than
+// 65,536 bytes `too long` only.
+fn put_text(out: &mut [u8], input: &[u8]) -> usize
     ensures { Put out.old 0 (text_of input.now) out.new result × (result ≤ 409642) }
 {
     if 65536 < input.len() {
-        return numerals::text::put_word(out, 0, b"too long\n");
+        put_too_long(out)
+    } else {
+        put_run(out, input)
     }
-    put_run(input, out)
 }
 
 // Writes the whole text and answers its length; what lies past it stays. Where `out` has no room for the longest text it is counted
 // first, in a buffer without room: where `out` is shorter than the text nothing is written.
-pub fn transcript(input: &[u8], out: &mut [u8]) -> Printed
-    ensures { Answers input.now out.old out.new result }
+pub fn transcript(input: &[u8], out: &mut [u8]) -> Result<usize, TooShort>
+    ensures { Answers input.now out.old out.new (printed_as result) }
 {
     if 409642 <= out.len() {
-        let whole = put_text(input, out);
-        return Printed::Whole { length: whole };
+        return Ok(put_text(out, input));
     }
-    let mut no_room: [u8; 0] = [];
-    let length = put_text(input, &mut no_room);
-    if out.len() < length {
-        return Printed::TooShort { needed: length };
+    let needed = put_text(&mut [], input);
+    if out.len() < needed {
+        return Err(TooShort { needed });
     }
-    put_text(input, out);
-    Printed::Whole { length }
+    put_text(out, input);
+    Ok(needed)
 }

@@ -1,10 +1,10 @@
-use Rattle.std.proofs.Common.{rules, arith}
+use Rattle.std.proofs.Common.{arith}
 use Rattle.lines.specs.Lines.{line}
 use Rattle.numerals.specs.Decimal.{few_digits}
-use Rattle.numerals.specs.Writing.{put_then}
+use Rattle.numerals.specs.Texts.{puts_then}
 use Rattle.lines.proofs.put_line.Goals as goal
 
 pub returns : goal.returns
 unfolding line
 returns c =
-    (search (rules, put_then), omega (arith, few_digits 4 c.args.index (omega arith)))
+    (puts_then c.put_decimal.ensures.0 c.put_reply.ensures.0, omega (arith, c.put_decimal.ensures.0.text.next_is, few_digits 4 c.args.index (omega arith)))

@@ -1,12 +1,13 @@
-use Rattle.std.proofs.Common.{arith}
+use Rattle.std.proofs.Common.{arith, ap}
+use Rattle.judge.specs.Answer.{answered}
 use Rattle.lines.specs.Lines.{refusal_text}
 use Rattle.numerals.specs.Writing.{put_none, put_like}
 use Rattle.lines.proofs.put_refusal.Goals as goal
 
-pub returns-in_default : goal.returns-in_default
+pub returns-in-Ok : goal.returns-in-Ok
 unfolding refusal_text
-returns-in_default c = (put_like refusal_text c.in_default.is (put_none _ _), omega arith)
+returns-in-Ok c = (put_like refusal_text (ap answered c.in-Ok.is) (put_none _ _), omega arith)
 
-pub returns : goal.returns
+pub returns-in-Err : goal.returns-in-Err
 unfolding refusal_text
-returns c = (put_like refusal_text c.in-Refused.is c.put_refused_line.ensures.0, c.put_refused_line.ensures.1)
+returns-in-Err c = (put_like refusal_text (ap answered c.in-Err.is) c.put_refused_line.ensures.0, c.put_refused_line.ensures.1)

@@ -1,9 +1,5 @@
 use Rattle.std.proofs.Common.{rules}
-use Rattle.loops.specs.Sum.{sums}
 use Rattle.ranges.proofs.positions_bad.Goals as goal
 
-pub loop-p-init : goal.loop-p-init
-loop-p-init c = search (rules, sums)
-
-pub loop-p-preserved : goal.loop-p-preserved
-loop-p-preserved c = search (rules, sums)
+pub returns : goal.returns
+returns c = c.entries_bad.ensures _ _ (λ k r h p. search rules) (λ k r h p. search rules)

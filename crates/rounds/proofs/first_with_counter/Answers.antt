@@ -1,15 +1,6 @@
 use Rattle.std.proofs.Common.{rules}
-use Rattle.loops.specs.First.{firsts}
+use Rattle.loops.specs.Chains.{find_chain}
 use Rattle.rounds.proofs.first_with_counter.Goals as goal
 
-pub loop-v-init : goal.loop-v-init
-loop-v-init c = search (rules, firsts)
-
-pub returns-then-has_counter_at : goal.returns-then-has_counter_at
-returns-then-has_counter_at c = search (rules, firsts)
-
-pub loop-v-preserved : goal.loop-v-preserved
-loop-v-preserved c = search (rules, firsts)
-
 pub returns : goal.returns
-returns c = search (rules, firsts)
+returns c = find_chain _ _ c.find.ensures.ran (search rules) (λ x b q k. search rules)

@@ -1,16 +1,6 @@
 use Rattle.std.proofs.Common.{rules}
-use Rattle.loops.specs.Any.{anys}
-use Rattle.loops.specs.Choice.{flags}
+use Rattle.loops.specs.Chains.{any_chain}
 use Rattle.rounds.proofs.has_edge.Goals as goal
 
-pub loop-e-init : goal.loop-e-init
-loop-e-init c = search (rules, anys, flags)
-
-pub returns-then-is_edge_at : goal.returns-then-is_edge_at
-returns-then-is_edge_at c = search (rules, anys, flags)
-
-pub loop-e-preserved : goal.loop-e-preserved
-loop-e-preserved c = search (rules, anys, flags)
-
 pub returns : goal.returns
-returns c = search (rules, anys, flags)
+returns c = any_chain _ c.any.ensures.ran (search rules) (λ x b q k. search rules)

@@ -3,14 +3,15 @@ use Rattle.routes.specs.Rows.{start}
 use Rattle.routes.proofs.Settling.{settlings}
 use Rattle.routes.proofs.emptiest_row.Goals as goal
 
-pub loop-row-init : goal.loop-row-init
-unfolding start
-loop-row-init c = search (rules, settlings)
+pub invariant_of-row : goal.invariant_of-row
+invariant_of-row c = record { low = c.loop.invariant.bound }
 
-pub returns-then-sweep-eq0 : goal.returns-then-sweep-eq0
+pub loop-init : goal.loop-init
 unfolding start
-returns-then-sweep-eq0 c = search (rules, settlings)
+loop-init c = search (rules, settlings)
 
-pub loop-row-preserved : goal.loop-row-preserved
-unfolding start
-loop-row-preserved c = search (rules, settlings)
+pub loop-preserved : goal.loop-preserved
+loop-preserved c = search (rules, settlings)
+
+pub returns : goal.returns
+returns c = search (rules, settlings)

@@ -2,8 +2,8 @@ use Rattle.routes.specs.Rows.{total, emptiest_row}
 use Rattle.routes.specs.Settling.{Settling}
 use Rattle.routes.proofs.emptiest_row.Given as goal
 
-abbrev pub invariant-loop-row : goal.invariant-loop-row
-invariant-loop-row l = Settling l.source l.destination l.tokens l.edges (emptiest_row l.source l.destination l.tokens l.edges l.from) l.row
+abbrev pub invariant-loop : goal.invariant-loop
+invariant-loop l = Settling l.plan.source l.plan.destination l.plan.tokens l.plan.edges (emptiest_row l.plan.source l.plan.destination l.plan.tokens l.plan.edges l.from) l.row.0
 
-abbrev pub decreases-loop-row : goal.decreases-loop-row
-decreases-loop-row l = total l.row
+abbrev pub decreases-loop : goal.decreases-loop
+decreases-loop l = total l.row.0

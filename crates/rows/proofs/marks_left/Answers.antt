@@ -1,9 +1,13 @@
-use Rattle.std.proofs.Common.{rules}
-use Rattle.loops.specs.Sum.{sums}
+use Rattle.std.proofs.Common.{rules, ◌^◌, ◌+◌, ◌*◌}
+use borrow.Author.Tests.{tests}
+use Rattle.loops.specs.Chains.{sum_chain, sum_fits_most}
+use Rattle.loops.specs.Choice.{at}
 use Rattle.rows.proofs.marks_left.Goals as goal
 
-pub loop-k-init : goal.loop-k-init
-loop-k-init c = search (rules, sums)
+pub sum-requires-clause-fits : goal.sum-requires-clause-fits
+sum-requires-clause-fits c =
+    sum_fits_most c.map.result (2 ^ 32) 255 (λ e. at c.args.state.now.marks (512 * c.args.p + e)) c.map.ensures.source
+    c.map.ensures.closure (λ x r q k. search (rules, tests)) (λ x r q k. search (rules, tests)) (search rules)
 
-pub loop-k-preserved : goal.loop-k-preserved
-loop-k-preserved c = search (rules, sums)
+pub returns : goal.returns
+returns c = sum_chain c.map.result _ c.sum.ensures.ran (search rules) c.map.ensures.closure (λ x r q k. search (rules, tests))

@@ -4,6 +4,3 @@ use Rattle.rows.proofs.next_nodes.Goals as goal
 
 pub loop-p-init : goal.loop-p-init
 loop-p-init c = search (rules, fills)
-
-pub loop-p-preserved : goal.loop-p-preserved
-loop-p-preserved c = search (rules, fills)

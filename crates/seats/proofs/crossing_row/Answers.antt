@@ -4,6 +4,3 @@ use Rattle.seats.proofs.crossing_row.Goals as goal
 
 pub loop-e-init : goal.loop-e-init
 loop-e-init c = search (rules, fills)
-
-pub loop-e-preserved : goal.loop-e-preserved
-loop-e-preserved c = search (rules, fills)

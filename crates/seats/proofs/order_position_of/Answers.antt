@@ -1,20 +1,12 @@
-use Rattle.std.proofs.Common.{rules}
-use Rattle.plan.specs.Tests.{order_position}
-use Rattle.loops.specs.First.{firsts}
+use Rattle.std.proofs.Common.{rules, ◌≡◌, ◌∙◌}
+use borrow.Author.Tests.{tests}
+use Rattle.loops.specs.Values.{lowest}
+use Rattle.loops.specs.Chains.{find_chain, lowest_or}
+use Rattle.plan.specs.Tests.{stands_at, order_position}
 use Rattle.seats.proofs.order_position_of.Goals as goal
-
-pub loop-i-init : goal.loop-i-init
-unfolding order_position
-loop-i-init c = search (rules, firsts)
-
-pub returns-then-stands_at : goal.returns-then-stands_at
-unfolding order_position
-returns-then-stands_at c = search (rules, firsts)
-
-pub loop-i-preserved : goal.loop-i-preserved
-unfolding order_position
-loop-i-preserved c = search (rules, firsts)
 
 pub returns : goal.returns
 unfolding order_position
-returns c = search (rules, firsts)
+returns c =
+    let found : c.find.result ≡ lowest (stands_at c.args.plan.now.order c.args.v) c.args.plan.now.nodes = find_chain _ _ c.find.ensures.ran (search rules) (λ x b q k. search (rules, tests)) in
+    c.unwrap_or.ensures ∙ rw c.from-nodes.ensures (lowest_or _ _ _ found)

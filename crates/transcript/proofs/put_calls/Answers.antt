@@ -1,19 +1,26 @@
-use Rattle.std.proofs.Common.{rules, arith}
-use Rattle.machine.specs.States.{fresh}
-use Rattle.transcript.specs.Running.{running_begin, running_more, running_over}
+use Rattle.std.proofs.Common.{arith, refl, ◌≡◌, ◌+◌, ◌*◌}
+use Rattle.numerals.specs.Writing.{put_like}
+use Rattle.transcript.specs.Running.{cut_if, running_begin, running_more, running_over}
 use mathlib.Core.Path.{◌∙◌}
 use Rattle.transcript.proofs.put_calls.Goals as goal
 
-pub loop-i-init : goal.loop-i-init
-unfolding fresh
-loop-i-init c = (running_begin _ c.requires.0 _ _ _, search rules)
+pub loop-index-init : goal.loop-index-init
+loop-index-init c = (rw c.fresh-state.ensures (running_begin _ c.requires.0 _ _ _), refl)
 
-pub loop-i-preserved : goal.loop-i-preserved
-loop-i-preserved c = (
-  running_more _ c.requires.0 _ _ _ _ c.loop-i.invariant.0 (search rules) _ _ _ c.byte_to_word-code.ensures.0
-      c.byte_to_word-process.ensures.0 (c.to_word-edge.ensures.0 ∙ c.pair_at.ensures) c.step_in_shape-reply.ensures c.put_line-next.ensures.0 c.put_line-next.ensures.1,
-  search rules,
-)
+pub loop-index-preserved : goal.loop-index-preserved
+loop-index-preserved c =
+    let e : 4 * (c.loop-index.index + 1) ≡ 4 * c.loop-index.index + 4 = omega arith in (
+      rw e
+          (running_more _ c.requires.0 _ _ _ _ c.loop-index.invariant.0 (omega arith) _ _ _ c.from.ensures
+          c.from-in-loop-index.ensures (c.from-in-loop-index-2.ensures ∙ c.pair_at.ensures) c.step_in_shape-reply.ensures c.put_line.ensures.0.text c.put_line.ensures.1),
+      c.put_line.ensures.0.same_buffer ∙ c.loop-index.invariant.1,
+    )
 
 pub returns : goal.returns
-returns c = (search (rules, running_over), omega arith)
+returns c = (
+  record {
+    text = running_over _ c.requires.0 _ _ _ c.loop-index.invariant.0 (omega arith) (put_like cut_if (omega arith) c.put_left_over.ensures.0.text);
+    same_buffer = c.put_left_over.ensures.0.same_buffer ∙ c.loop-index.invariant.1;
+  },
+  omega arith,
+)

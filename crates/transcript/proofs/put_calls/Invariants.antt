@@ -1,14 +1,8 @@
-use Rattle.std.proofs.Common.{length, ◌-◌, ◌≡◌}
-use Rattle.plan.specs.Value.{plan_with}
-use Rattle.machine.specs.States.{state_with}
+use Rattle.std.proofs.Common.{◌*◌, ◌≡◌}
 use Rattle.transcript.specs.Running.{Running}
 use Rattle.transcript.proofs.put_calls.Given as goal
 
-abbrev pub invariant-loop-i : goal.invariant-loop-i
-invariant-loop-i l =
-    Running (plan_with l.nodes l.processes l.edges l.counts l.modulus l.q l.lengths l.order l.counter l.increment l.source l.destination l.tokens) l.calls l.fn.out l.offset l.index l.i
-    (state_with l.positions l.opened l.marks l.counters l.turn) l.out l.next
-    × (length l.out ≡ length l.fn.out)
-
-abbrev pub decreases-loop-i : goal.decreases-loop-i
-decreases-loop-i l = length l.calls - l.i
+abbrev pub invariant-loop-index : goal.invariant-loop-index
+invariant-loop-index l =
+    Running l.plan l.calls l.fn.text.buffer.now l.fn.text.length l.index (4 * l.index) l.state l.text.buffer.now l.text.length
+    × (l.text.buffer.ghost_name ≡ l.fn.text.buffer.ghost_name)

@@ -1,0 +1,2 @@
+-- rounding up by the quotient rounded up
+pub mod Ceil

@@ -1,7 +1,0 @@
-use Rattle.std.proofs.Common.{arith}
-use Rattle.image.specs.Offsets.{order_start, node_start, edge_start, total}
-use Rattle.image.proofs.destination_of.Goals as goal
-
-pub table_of_512-requires : goal.table_of_512-requires
-unfolding order_start node_start edge_start total
-table_of_512-requires c = (omega arith, λ k h. omega arith)

@@ -1,6 +1,0 @@
--- A write that failed adds nothing.
-use Rattle.std.specs.Io.KnownBytes.{Keeps}
-use Rattle.streams.proofs.write_part.Given as goal
-
-abbrev pub invariant-loop : goal.invariant-loop
-invariant-loop g l = Keeps (g.O.Write.contents l.initial.output) (g.O.Write.contents l.output)

@@ -1,0 +1,20 @@
+-- The transcript's answer in words tells every two results apart. Assumes nothing.
+use Rattle.std.specs.Prelude.{◌≡◌, ℕ, Result, Ok, Err}
+use Rattle.std.proofs.Common.{ap, arith, sym}
+use Rattle.transcript.specs.declared.TooShort as code
+use Rattle.transcript.specs.Text.{Whole, TooShort, printed_as}
+
+whole_one : {m n : ℕ} → Whole m ≡ Whole n → m ≡ n
+whole_one e = cc
+
+short_one : {m n : ℕ} → TooShort m ≡ TooShort n → m ≡ n
+short_one e = cc
+
+whole_not_short : {m n : ℕ} → Whole m ≡ TooShort n → ⊥
+whole_not_short e = let z : ◌≡◌ {A = ℕ} 0 1 = cc in omega arith
+
+pub printed_one : (r r' : Result ℕ code.TooShort) → printed_as r ≡ printed_as r' → r ≡ r'
+printed_one (Ok m) (Ok n) e = ap Ok (whole_one e)
+printed_one (Ok m) (Err x) e = absurd (whole_not_short e)
+printed_one (Err x) (Ok m) e = absurd (whole_not_short (sym e))
+printed_one (Err x) (Err y) e = ap (λ k. Err (record { needed = k })) (short_one e)
