@@ -19,6 +19,10 @@ entered source destination tokens row v sums e = if (eqb (at destination e) v) (
 abbrev pub Known : List ℕ → ℕ → ℕ → Type 0
 Known destination nodes edges = (e : ℕ) → e < edges → at destination e < nodes
 
+-- no loop sum is above 1,000 tokens and `no_route`
+abbrev pub Small : List ℕ → Type 0
+Small sums = (e : ℕ) → at sums e ≤ 101000
+
 -- no entry is above the 65,535 tokens that a plan's table can hold for an edge and `no_route`
 abbrev pub Bounded : List ℕ → Type 0
 Bounded sums = (e : ℕ) → at sums e ≤ 165535

@@ -1,5 +1,7 @@
 #![tactic(auto)]
 // Loop sums, tests 13, 14 and 16 over them, and the least modulus.
+// Chains go over 0, 1, .. n - 1 and not over a slice, as the rules are of a number (`loops/Chains`); `crossing` goes beside
+// a plan, as it carries no fact. What is asked of a plan's tables (`EndsInRow`, `Known`) stays a clause: a type for it would be a second plan.
 // Bounds of counts stay in each `requires`: a type that held them all would ask more of a caller than each function asks.
 ghost use Rattle.std.specs.Prelude.{◌≡◌, ◌+◌, ◌*◌, ◌<◌, ◌≤◌};
 ghost use Rattle.loops.specs.Any.{any};
@@ -75,15 +77,15 @@ fn on_free_cycle_at(plan: &Plan, sums: &[u32; 512], v: usize) -> bool
     (0..usize::from(plan.edges)).any(|e| closes_free_at(plan, sums, v, e))
 }
 
-// Number 13: the lowest node on a cycle without tokens; looked for only where some edge closes such a cycle. (13 and 14 take any table of sums: as methods of `LoopSums` they would ask for its bound.)
-pub fn first_on_free_cycle(plan: &Plan, sums: &[u32; 512]) -> Option<usize>
+// Number 13: the lowest node on a cycle without tokens; looked for only where some edge closes such a cycle. (13 and 14 take any table of sums: as methods of `LoopSums` they would ask for its bound. The nodes that are looked at are told beside the plan, which indexes no table by them: any number is answered.)
+pub fn first_on_free_cycle(plan: &Plan, sums: &[u32; 512], nodes: usize) -> Option<usize>
     requires { plan.now.edges ≤ 512 }
-    ensures { result ≡ lowest (on_free_cycle_in plan.now.destination sums.now plan.now.edges) plan.now.nodes }
+    ensures { result ≡ lowest (on_free_cycle_in plan.now.destination sums.now plan.now.edges) nodes }
 {
     if !some_free(plan, sums) {
         return None;
     }
-    (0..usize::from(plan.nodes)).find(|v| on_free_cycle_at(plan, sums, *v))
+    (0..nodes).find(|v| on_free_cycle_at(plan, sums, *v))
 }
 
 // A synchronising edge without a route back.

@@ -29,7 +29,14 @@ use Rattle.follow.specs.Theorems as follow
 use Rattle.follow.proofs.Theorems as runs
 use Rattle.follow.specs.Meaning.{state_after, answers_after, fired_after, tokens_now, LookExact, FireMeans, Stands}
 use Rattle.follow.specs.DriveCalls.{YetToSee, Driven, Reached}
+use Rattle.reader.specs.declared.ReadPlan as read
+use Rattle.reader.specs.Answer.{told}
+use Rattle.calls.specs.declared.Turned as turned
+use Rattle.calls.specs.declared.Began as beginning
+use Rattle.calls.specs.Answers.{began_of}
 use Rattle.demands.specs.Functions as functions
+use Rattle.demands.specs.Code as code
+use Rattle.demands.specs.Steps.{Steps, replies}
 
 -- ---- demand 1
 -- "Every plan image … is answered": accepted, or refused with a number from 1 to 16 and a place.
@@ -155,3 +162,9 @@ module _ (s : List ℕ) (a : IsAccepted s) where
       → (cs : List Call) {rs : List Reply} {end : State} → Chain r.plan b.state cs rs end
       → (b.number ≡ 0) × (rs ≡ answers_after plan cs) × (end ≡ state_after plan cs)
   of_the_functions = functions.of_the_functions s a
+
+  -- the same of the code's own results: what `reader::read`, `calls::begin` and `calls::step` answer, read by the maps of their promises
+  pub of_the_code : (r : read.ReadPlan) → told r ≡ read_of s → (b : beginning.Began) → began_of b ≡ begin_run r.plan
+      → (cs : List Call) {ts : List turned.Turned} {end : State} → Steps r.plan b.state cs ts end
+      → (b.number ≡ 0) × (replies ts ≡ answers_after plan cs) × (end ≡ state_after plan cs)
+  of_the_code = code.of_the_code s a

@@ -1,6 +1,9 @@
 -- the statements
 pub mod Demands
--- a proof of theirs
+-- what the functions answer, call after call
+pub mod Steps
+-- proofs of theirs
 pub mod Functions
+pub mod Code
 -- the examples
 pub mod Starred

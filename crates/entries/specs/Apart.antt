@@ -3,7 +3,7 @@ use Rattle.std.specs.Prelude.{◌≡◌, refl, ℕ, Result, Ok, Err}
 use Rattle.std.proofs.Common.{ap, arith}
 use Rattle.plan.specs.declared.Refusal.{Refusal}
 use Rattle.plan.specs.Apart.{refusal_one}
-use Rattle.entries.specs.Answer.{Checked, Passed, Refused, checked}
+use Rattle.entries.specs.Answer.{Passed, Refused, checked}
 
 refused_number : {k p k' p' : ℕ} → Refused k p ≡ Refused k' p' → k ≡ k'
 refused_number e = cc

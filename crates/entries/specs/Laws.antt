@@ -5,7 +5,9 @@ use Rattle.std.proofs.Math.Path.{refl}
 use Rattle.std.proofs.Math.Bool.{true, false}
 use Rattle.std.proofs.Common.{arith}
 use Rattle.loops.specs.Choice.{if}
+use Rattle.std.proofs.Common.{ap}
 use Rattle.plan.specs.declared.Plan.{Plan}
+use Rattle.plan.specs.Value.{with_counters}
 use Rattle.plan.specs.Faults.{CountsFit}
 use Rattle.plan.specs.Tests.{refuse_lowest, order_then, tables_then}
 use Rattle.plan.specs.Passed.{passes_3, counts_pass}
@@ -17,6 +19,10 @@ use Rattle.plan.specs.Faults.{tables_order}
 use Rattle.plan.specs.Decided.{tables_decided}
 use Rattle.entries.specs.Answer.{Passed, Refused}
 use Rattle.entries.specs.Answer.{tables_answer, after_tables}
+
+-- a plan value with its own number of counters is that plan value
+pub own_counters : (pl : Plan) (c : ℕ) → c ≡ pl.counters → with_counters pl c ≡ pl
+own_counters pl c e = ap (with_counters pl) e
 
 refused_one : (k p k' p' : ℕ) → Refused k p ≡ Refused k' p' → (k ≡ k') × (p ≡ p')
 refused_one k p k' p' e = (cc, cc)

@@ -1,5 +1,7 @@
 #![tactic(auto)]
 // The test of an edge (000, formula 14) and the token reading (formula 15), on the counters.
+// Bounds of counts stay in each `requires`: a type that held them all would ask more of a caller than each function asks.
+// Chains go over 0, 1, .. n - 1 and not over a slice, as the rules are of a number (`loops/Chains`).
 ghost use Rattle.std.specs.Prelude.{◌≡◌, ◌+◌, ◌%◌, ◌<◌};
 ghost use Rattle.loops.specs.Choice.{at};
 ghost use Rattle.counting.specs.Modular.{rounded_up, minus_modulo, finds, reading_printed};

@@ -4,7 +4,10 @@ use Rattle.std.proofs.Common.{ap, ap₂, arith, ◌∙◌}
 use Rattle.plan.specs.declared.Refusal.{Refusal}
 use Rattle.plan.specs.Apart.{refusal_one}
 use Rattle.judge.specs.declared.Acceptance.{Acceptance}
+use Rattle.plan.specs.declared.Plan.{Plan}
+use Rattle.plan.specs.Unique.{one_answer}
 use Rattle.judge.specs.Answer.{Accepted, Refused, answered}
+use Rattle.judge.specs.Tests.{from_5, judged}
 
 refused_number : {k p k' p' : ℕ} → Refused k p ≡ Refused k' p' → k ≡ k'
 refused_number e = cc
@@ -30,3 +33,10 @@ answered_one (Ok a) (Ok b) e = ap Ok (same_acceptance e)
 answered_one (Ok a) (Err x) e = absurd (not_refused e)
 answered_one (Err x) (Ok a) e = absurd (not_accepted e)
 answered_one (Err x) (Err y) e = ap Err (refusal_one (refused_number e) (refused_place e))
+
+-- the promises of `judge` and `from_5` leave room for one result of the code
+pub judge_one : (pl : Plan) {r r' : Result Acceptance Refusal} → answered r ≡ judged pl → answered r' ≡ judged pl → r ≡ r'
+judge_one pl {r} {r'} p q = answered_one r r' (one_answer p q)
+
+pub from_5_one : (pl : Plan) {r r' : Result Acceptance Refusal} → answered r ≡ from_5 pl → answered r' ≡ from_5 pl → r ≡ r'
+from_5_one pl {r} {r'} p q = answered_one r r' (one_answer p q)

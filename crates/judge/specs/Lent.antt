@@ -1,6 +1,7 @@
 -- What the rows that tests 10 to 16 are lent say of a plan whose tests 3 and 5 to 8 pass; and what is asked of lent tables.
 -- Assumes nothing.
 use Rattle.std.specs.Prelude.{ℕ, ◌≤◌, ◌<◌, ◌≡◌, refl, List, Bool, ◌↔◌, ◌≢◌, eqb}
+use Rattle.std.proofs.Math.Decide.{dec_lt}
 use native.Mathlib.Omega.{arith}
 use Rattle.std.proofs.Math.Path.{sym, ap}
 use Rattle.std.proofs.Common.{◌∙◌}
@@ -9,7 +10,7 @@ use borrow.Author.Tests.{eqb-false, ne_eqb}
 use Rattle.loops.specs.Choice.{at, if, if_le, if_false, one_if, either_false}
 use Rattle.loops.specs.First.{first, first_none}
 use Rattle.loops.specs.Sum.{sum, sum_le_below}
-use Rattle.loops.specs.Table.{padded_at}
+use Rattle.loops.specs.Table.{padded, padded_at, padded_past}
 use Rattle.plan.specs.declared.Plan.{Plan}
 use Rattle.plan.specs.Value.{share, Synchronising}
 use Rattle.plan.specs.Tests.{home, different, synchronises}
@@ -19,7 +20,9 @@ use Rattle.plan.specs.Tests.{home_table}
 use Rattle.plan.specs.Seating.{home_table_at, synchronises_exactly}
 use Rattle.seats.specs.Crossing.{crossing_table}
 use Rattle.seats.specs.Laws.{crossing_at}
+use Rattle.routes.specs.Settling.{row_most}
 use Rattle.rounds.specs.Lent.{bad_sum_in}
+use Rattle.cycles.specs.Lent.{loop_sum_in, Small}
 use Rattle.judge.specs.Tests.{loop_sum, sum_table}
 
 -- counters, at least one, of nodes with increments in bounds
@@ -78,3 +81,19 @@ module _ (pl : Plan) (t : Tabled pl) where
   -- the row of loop sums holds them
   pub sum_at : (e : ℕ) → e < pl.edges → at (sum_table pl) e ≡ loop_sum pl e
   sum_at e h = padded_at (loop_sum pl) 512 pl.edges e h
+
+  -- no loop sum is above 1,000 tokens and `no_route`
+  pub sums_small : {sums : List ℕ} → sums ≡ padded (loop_sum_in pl.source pl.destination pl.tokens pl.edges) 512 pl.edges → Small sums
+  unfolding loop_sum_in
+  sums_small s e =
+      elim (dec_lt e pl.edges) [
+        | yes l ↦
+            omega (
+              arith,
+              ap (λ x. at x e) s ∙ padded_at (loop_sum_in pl.source pl.destination pl.tokens pl.edges) 512 pl.edges e l,
+              t.tokens_most e l,
+              row_most pl.source pl.destination pl.tokens pl.edges (at pl.destination e) (at pl.source e) (omega (arith, t.destination_lt e l, t.counts.nodes_most)),
+            )
+        | no l ↦
+            omega (arith, ap (λ x. at x e) s, padded_past (loop_sum_in pl.source pl.destination pl.tokens pl.edges) 512 pl.edges e (omega arith))
+      ]

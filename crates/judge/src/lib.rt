@@ -59,7 +59,11 @@ fn from_9(plan: &Plan) -> Result<Acceptance, Refusal>
     let q = plan.counter_sum(0);
     Test::Sums.refuse_lowest(rounds::first_bad_sum(plan, q))?;
     let sums = cycles::loop_sums(plan);
-    Test::FreeCycles.refuse_lowest(cycles::first_on_free_cycle(plan, &sums.sums))?;
+    Test::FreeCycles.refuse_lowest(cycles::first_on_free_cycle(
+        plan,
+        &sums.sums,
+        usize::from(plan.nodes),
+    ))?;
     Test::WaysBack.refuse_lowest(cycles::first_no_way_back(plan, &crossing, &sums.sums))?;
     from_15(plan, &crossing, &sums, q)
 }
@@ -69,7 +73,7 @@ pub fn from_5(plan: &Plan) -> Result<Acceptance, Refusal>
     requires { CountsFit plan.now }
     ensures { answered result ≡ from_5 plan.now }
 {
-    entries::tables(plan)?;
+    entries::tables(plan, usize::from(plan.counters))?;
     from_9(plan)
 }
 

@@ -4,8 +4,7 @@ ghost use Rattle.std.specs.Prelude.{◌++◌, ◌+◌, ◌<◌, ◌≤◌, lengt
 ghost use Rattle.lines.specs.Words.{newline};
 ghost use Rattle.lines.specs.Lines.{plan_line, refused_line, refusal_text, said, line};
 ghost use Rattle.judge.specs.Answer.{answered};
-ghost use Rattle.machine.specs.Answers.{replied};
-ghost use Rattle.plan.specs.Refusals.{number_of};
+ghost use Rattle.machine.specs.Answers.{replied, Refused};
 ghost use Rattle.numerals.specs.Decimal.{number_then};
 ghost use Rattle.numerals.specs.Texts.{Puts};
 ghost use Rattle.numerals.specs.Writing.{Put};
@@ -31,17 +30,17 @@ pub fn put_plan_line(out: &mut [u8], accepted: Acceptance) -> usize
     text.length
 }
 
-// First line: `refused` number place.
-fn put_refused_line(out: &mut [u8], refusal: Refusal) -> usize
-    ensures { Put out.old 0 (refused_line (number_of refusal.test) refusal.place) out.new result × (result ≤ 38) }
+// First line: `refused` number place, whatever the number.
+pub fn put_refused_line(out: &mut [u8], number: u32, place: u32) -> usize
+    ensures { Put out.old 0 (refused_line number place) out.new result × (result ≤ 38) }
 {
     let mut text = Text {
         buffer: &mut *out,
         length: 0,
     };
     text.put_word(b"refused ");
-    text.put_number(u32::from(refusal.test), b' ');
-    text.put_number(refusal.place, b'\n');
+    text.put_number(number, b' ');
+    text.put_number(place, b'\n');
     text.length
 }
 
@@ -51,7 +50,7 @@ pub fn put_refusal(out: &mut [u8], answer: Result<Acceptance, Refusal>) -> usize
 {
     match answer {
         Ok(_) => 0,
-        Err(refusal) => put_refused_line(out, refusal),
+        Err(refusal) => put_refused_line(out, u32::from(refusal.test), refusal.place),
     }
 }
 
@@ -64,7 +63,8 @@ fn put_said(text: &mut Text, word: &[u8], n: u32)
     text.put_number(n, b'\n');
 }
 
-// `opened`, `found` or `wait` with edges left, or `fired` with the node.
+// `opened`, `found` or `wait` with edges left, or `fired` with the node. (`statecheck` formats the same words; here bytes are put as the proof
+// counts them.)
 fn put_done(text: &mut Text, done: Done)
     requires { text.old.length < 1000000 }
     ensures { Puts text.old (said (replied (Ok done))) text.new × (text.new.length ≤ text.old.length + 20) }
@@ -77,15 +77,32 @@ fn put_done(text: &mut Text, done: Done)
     }
 }
 
-// That, or `refused` with the number.
+// `refused` with the number.
+fn put_number_said(text: &mut Text, number: u32)
+    requires { text.old.length < 1000000 }
+    ensures { Puts text.old (said (Refused number)) text.new × (text.new.length ≤ text.old.length + 20) }
+{
+    put_said(text, b" refused ", number);
+}
+
+// What a call did, or `refused` with the number.
 fn put_reply(text: &mut Text, reply: Result<Done, Reason>)
     requires { text.old.length < 1000000 }
     ensures { Puts text.old (said (replied reply)) text.new × (text.new.length ≤ text.old.length + 20) }
 {
     match reply {
         Ok(done) => put_done(text, done),
-        Err(reason) => put_said(text, b" refused ", u32::from(reason)),
+        Err(reason) => put_number_said(text, u32::from(reason)),
     }
+}
+
+// The line of a refused call, whatever the number: its index, and `refused` with the number.
+pub fn put_refused_call(text: &mut Text, index: u32, number: u32)
+    requires { (text.old.length < 900000) × (index < 100000) }
+    ensures { Puts text.old (line index (Refused number)) text.new × (text.new.length ≤ text.old.length + 25) }
+{
+    text.put_decimal(index);
+    put_number_said(text, number);
 }
 
 // The line of a call: its index, and what was answered.

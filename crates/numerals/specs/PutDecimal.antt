@@ -2,20 +2,19 @@
 use Rattle.std.specs.Prelude.{◌≡◌, List, [], ◌∷◌, ℕ, ◌+◌, ◌/◌, ◌%◌, ◌≤◌, ◌<◌, length}
 use Rattle.std.proofs.Common.{sym, ap, ◌∙◌, arith}
 use Rattle.numerals.specs.Decimal.{decimal, decimal_one, decimal_more, few_digits}
-use Rattle.numerals.specs.declared.text.Text.{Text}
-use Rattle.numerals.specs.Texts.{Puts, puts_then, puts_same}
+use Rattle.numerals.specs.Writing.{Put, put_then, put_same}
 
 -- a number of 32 bits has at most ten digits
 pub at_most_ten : (n : ℕ) → n < 4294967296 → length (decimal n) ≤ 10
 at_most_ten n h = few_digits 9 n (omega arith)
 
-bounded : {a b : Text} (n : ℕ) → n < 4294967296 → Puts a (decimal n) b → Puts a (decimal n) b × (b.length ≤ a.length + 10)
-bounded n h p = (p, omega (arith, p.text.next_is, at_most_ten n h))
+bounded : {l m : List ℕ} {i j : ℕ} (n : ℕ) → n < 4294967296 → Put l i (decimal n) m j → Put l i (decimal n) m j × (j ≤ i + 10)
+bounded n h p = (p, omega (arith, p.next_is, at_most_ten n h))
 
-pub put_digit : {a b : Text} {d : ℕ} (n : ℕ) → n < 10 → d ≡ 48 + n → Puts a (d ∷ []) b → Puts a (decimal n) b × (b.length ≤ a.length + 10)
-put_digit n h e p = bounded n (omega arith) (puts_same (ap (λ (d : ℕ). d ∷ []) e ∙ sym (decimal_one n h)) p)
+pub put_digit : {l m : List ℕ} {i j d : ℕ} (n : ℕ) → n < 10 → d ≡ 48 + n → Put l i (d ∷ []) m j → Put l i (decimal n) m j × (j ≤ i + 10)
+put_digit n h e p = bounded n (omega arith) (put_same (ap (λ (d : ℕ). d ∷ []) e ∙ sym (decimal_one n h)) p)
 
-pub put_digits : {a b c : Text} {d : ℕ} (n : ℕ) → 10 ≤ n → n < 4294967296 → Puts a (decimal (n / 10)) b → d ≡ 48 + n % 10
-    → Puts b (d ∷ []) c → Puts a (decimal n) c × (c.length ≤ a.length + 10)
+pub put_digits : {l m k : List ℕ} {i j r d : ℕ} (n : ℕ) → 10 ≤ n → n < 4294967296 → Put l i (decimal (n / 10)) m j → d ≡ 48 + n % 10
+    → Put m j (d ∷ []) k r → Put l i (decimal n) k r × (r ≤ i + 10)
 put_digits n h f p e q =
-    bounded n f (puts_same (sym (decimal_more n h)) (puts_then p (puts_same (ap (λ (d : ℕ). d ∷ []) e) q)))
+    bounded n f (put_same (sym (decimal_more n h)) (put_then p (put_same (ap (λ (d : ℕ). d ∷ []) e) q)))

@@ -1,5 +1,6 @@
 #![tactic(auto)]
 // The plan value; sums over its tables, and the process of an order position. The tests of a plan by name, and what turns one down.
+// Chains go over 0, 1, .. n - 1 and not over a slice, as the rules are of a number (`loops/Chains`).
 // Bounds of counts stay in each `requires`: a type that held them all would ask more of a caller than each function asks.
 // `as` stands where std has no `From`: for the number of an enum, and for a number that is proved to fit the smaller type.
 ghost use Rattle.std.specs.Prelude.{◌≡◌, ◌^◌, ◌<◌, ◌≤◌, IfSome};

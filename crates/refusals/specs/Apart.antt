@@ -7,7 +7,7 @@ use Rattle.refusals.specs.declared.Reason.TheVariants.{UnknownProcess, AlreadyOp
 use Rattle.refusals.specs.declared.Call.{Call}
 use Rattle.refusals.specs.declared.Call.TheVariants.{Open, Look, Fire}
 use Rattle.refusals.specs.declared.Request.{Request}
-use Rattle.refusals.specs.Reasons.{number_of, Asks, Allows}
+use Rattle.refusals.specs.Reasons.{number_of, number_in, Asks, Allows}
 
 -- the reason that a number stands for
 unfoldable reason_of : ℕ → Reason
@@ -59,3 +59,10 @@ allowed_one n m o k q (Ok c) (Ok c') a b = ap Ok (asks_one q c c' a.1 b.1)
 allowed_one n m o k q (Ok c) (Err x) a b = absurd (never_0 x (b ∙ a.0))
 allowed_one n m o k q (Err x) (Ok c) a b = absurd (never_0 x (a ∙ b.0))
 allowed_one n m o k q (Err x) (Err y) a b = ap Err (reason_one (a ∙ sym b))
+
+-- 0 or the number that a call is turned down with tells what was answered
+pub number_one : (r r' : Result (Unit {0}) Reason) → number_in r ≡ number_in r' → r ≡ r'
+number_one (Ok a) (Ok b) e = refl
+number_one (Ok a) (Err y) e = absurd (never_0 y (sym e))
+number_one (Err x) (Ok b) e = absurd (never_0 x e)
+number_one (Err x) (Err y) e = ap Err (reason_one e)

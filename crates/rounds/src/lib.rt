@@ -1,5 +1,7 @@
 #![tactic(auto)]
 // Tests 9 to 12 of a plan, which is lent: process edges; each counter's nodes in one process; increments; sums of increments.
+// Chains go over 0, 1, .. n - 1 and not over a slice, as the rules are of a number (`loops/Chains`); `crossing` goes beside
+// a plan, as it carries no fact: a struct of both would be built for one call.
 // Bounds of counts stay in each `requires`: a type that held them all would ask more of a caller than each function asks. So does
 // that a position is one of a process (`i < base ..`), which is of a position and a plan.
 ghost use Rattle.std.specs.Prelude.{◌≡◌, ◌<◌, ◌≤◌};

@@ -1,5 +1,7 @@
 #![tactic(auto)]
 // Rows of a state and of a plan, lent: which edges are to see, which marks are too many, and how many are left.
+// Chains go over 0, 1, .. n - 1 and not over a slice, as the rules are of a number (`loops/Chains`); `crossing` goes beside
+// a plan, as it carries no fact. Rows of 0 and 1 are bytes, as they are stored as a state's marks, which are bytes for C.
 // Bounds of counts stay in each `requires`: a type that held them all would ask more of a caller than each function asks.
 ghost use Rattle.std.specs.Prelude.{◌≡◌, ◌+◌, ◌<◌, ◌≤◌, ltb};
 ghost use Rattle.loops.specs.Choice.{at, one_if};
@@ -65,12 +67,13 @@ fn allowed_row(
     state: &State,
     nexts: &[u16; 64],
     crossing: &[u8; 512],
+    processes: usize,
     p: usize,
 ) -> [u8; 512]
     requires { (p < 64) × (plan.now.edges ≤ 512) }
-    ensures { result ≡ allowed_row state.now.opened nexts.now plan.now.destination crossing.now plan.now.processes plan.now.edges p }
+    ensures { result ≡ allowed_row state.now.opened nexts.now plan.now.destination crossing.now processes plan.now.edges p }
 {
-    if p < usize::from(plan.processes) && 0 < state.opened[p] {
+    if p < processes && 0 < state.opened[p] {
         wanted_row(plan, crossing, nexts[p])
     } else {
         [0; 512]
@@ -88,13 +91,23 @@ fn row_above(allowed: &[u8; 512], state: &State, p: usize) -> u16
         .sum()
 }
 
-// How many marks of all rows are not allowed.
-pub fn rows_excess(plan: &Plan, state: &State, nexts: &[u16; 64], crossing: &[u8; 512]) -> u16
+// How many marks of all rows are not allowed, of so many processes: any number is answered. A count, as the rules count (`state_fits`).
+pub fn rows_excess(
+    plan: &Plan,
+    state: &State,
+    nexts: &[u16; 64],
+    crossing: &[u8; 512],
+    processes: usize,
+) -> u16
     requires { plan.now.edges ≤ 512 }
-    ensures { result ≡ rows_above state.now.marks state.now.opened nexts.now plan.now.destination crossing.now plan.now.processes plan.now.edges }
+    ensures { result ≡ rows_above state.now.marks state.now.opened nexts.now plan.now.destination crossing.now processes plan.now.edges }
 {
     (0..64)
-        .map(|p| row_above(&allowed_row(plan, state, nexts, crossing, p), state, p))
+        .map(|p| row_above(
+            &allowed_row(plan, state, nexts, crossing, processes, p),
+            state,
+            p,
+        ))
         .sum()
 }
 

@@ -1,5 +1,6 @@
 #![tactic(auto)]
 // Where each node stands: its order position, its process, and whether an edge's ends are in different processes.
+// Chains go over 0, 1, .. n - 1 and not over a slice, as the rules are of a number (`loops/Chains`).
 // Bounds of counts stay in each `requires`: a type that held them all would ask more of a caller than each function asks.
 // `as` stands where std has no `From`: for a number that is proved to fit the smaller type.
 // A synchronising edge is 1 and another 0, bytes, as rows of these are stored as a state's marks, which are bytes for C.

@@ -19,5 +19,7 @@ fn q_fits(plan: &Plan) -> bool
 pub fn fits(plan: &Plan) -> bool
     ensures { result ≡ plan_fits plan.now }
 {
-    !entries::counts_bad(plan.counts()) && entries::tables(plan).is_ok() && q_fits(plan)
+    !entries::counts_bad(plan.counts())
+        && entries::tables(plan, usize::from(plan.counters)).is_ok()
+        && q_fits(plan)
 }

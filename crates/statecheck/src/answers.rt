@@ -58,13 +58,13 @@ fn put_refusal(out: &mut impl fmt::Write, reason: Reason) -> fmt::Result {
     writeln!(out, "refused {number}")
 }
 
-// One request: its line, and the state that it leaves.
+// One request on the state where it stands: its line, and the state that it leaves.
 fn put_request(
     out: &mut impl fmt::Write,
-    plan: Plan,
-    state: State,
+    plan: &Plan,
+    state: &mut State,
     request: &[u8],
-) -> Result<State, fmt::Error> {
+) -> fmt::Result {
     let edge = number_at(request, 9);
     match Kind::from(byte_at(request, 0)) {
         Kind::Call => {
@@ -73,18 +73,15 @@ fn put_request(
                 process: number_at(request, 5),
                 edge,
             };
-            let turned = calls::step(plan, state, call);
-            put_reply(out, turned.reply)?;
-            Ok(turned.state)
+            let turned = calls::step(*plan, *state, call);
+            *state = turned.state;
+            put_reply(out, turned.reply)
         }
-        Kind::Reading => {
-            put_level(out, calls::token_reading(plan, state, edge))?;
-            Ok(state)
-        }
+        Kind::Reading => put_level(out, calls::token_reading(*plan, *state, edge)),
         Kind::Beginning => {
-            let began = calls::begin(plan);
-            put_began(out, began.number)?;
-            Ok(began.state)
+            let began = calls::begin(*plan);
+            *state = began.state;
+            put_began(out, began.number)
         }
     }
 }
@@ -92,13 +89,12 @@ fn put_request(
 // All requests of a record, and the state that they leave.
 pub fn put_requests(
     out: &mut impl fmt::Write,
-    plan: Plan,
-    begun: State,
+    plan: &Plan,
+    state: &mut State,
     record: &[u8],
-) -> Result<State, fmt::Error> {
-    let mut state = begun;
+) -> fmt::Result {
     for request in requests_in(record).chunks(13) {
-        state = put_request(out, plan, state, request)?;
+        put_request(out, plan, state, request)?;
     }
-    Ok(state)
+    Ok(())
 }

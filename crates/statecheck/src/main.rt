@@ -38,9 +38,9 @@ fn next_record<I: Read>(
 fn put_case(out: &mut impl fmt::Write, number: u32, record: &[u8]) -> fmt::Result {
     writeln!(out, "case {number}")?;
     let plan = record::plan_in(record);
-    let state = record::state_in(record);
-    let after = answers::put_requests(out, plan, state, record)?;
-    states::put_state(out, &after)
+    let mut state = record::state_in(record);
+    answers::put_requests(out, &plan, &mut state, record)?;
+    states::put_state(out, &state)
 }
 
 // Answers every record, to the stream's end: an error where a write fails.

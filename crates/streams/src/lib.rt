@@ -2,11 +2,13 @@
 // Reading and writing for programs that never take an error for the end of the input or for success. A call that a signal interrupts, and
 // one that a non-blocking stream answers with "try again", is tried again; one that moves a part of the bytes is continued.
 // `as` stands where std has no `From`: a `usize` from a `u32`, or a number that is proved to fit the smaller type.
+// `rt`, a stream and `words` are parameters of their own: they carry no fact, and a struct of them would be built for one call each.
 ghost use Rattle.std.specs.Prelude.{◌≡◌, ◌↔◌, ◌⊎◌, IfOk, IfSome, IsErr, IsTrue, MatchResult, OnOk, OnErr, OnSome, length};
 ghost use Rattle.std.specs.Counts.{IsPrefixLen};
 ghost use Rattle.std.specs.Io.{ReadsAtMost};
 ghost use Rattle.std.specs.Io.KnownBytes.{Appends, Consumes, Keeps, ReadConsumes, WriteAppends};
 ghost use Rattle.std.specs.IoError.{error_kind};
+ghost use Rattle.streams.specs.Counted.{got_of, counts_as};
 ghost use Rattle.streams.specs.Held.{AppendsPart, Held, Takes, TakesNumber, Tried};
 
 #[cfg(test)]
@@ -160,6 +162,22 @@ fn answered<T>(rt: &impl Eprint, answer: io::Result<T>, words: &[u8]) -> Result<
     })
 }
 
+// What a read on these bytes answered, counted within them: an error is a failure, which is told, and nothing else is.
+#[tactic(auto, using(crate::specs::Counted::counted_is))]
+fn counted(
+    rt: &impl Eprint,
+    answer: io::Result<usize>,
+    bytes: &[u8],
+    words: &[u8],
+) -> Result<usize, Told>
+    requires { ReadsAtMost answer bytes.now }
+    ensures value { got_of result ≡ counts_as answer (length bytes.now) }
+    ensures held { Held result bytes.now }
+    ensures same { MatchResult answer (λ value. result ≡ Ok value) (λ _. IsErr result) }
+{
+    answered(rt, answer, words)
+}
+
 // Reads the input until the buffer is full or the input ends. Where a read fails, one line on standard error has these words and the system's
 // reason.
 pub fn read_all<I: Read>(
@@ -172,7 +190,7 @@ pub fn read_all<I: Read>(
     ensures bytes { Takes (I.remaining input.old) (I.remaining input.new) result buffer.new }
 {
     let answer = read_bytes(rt, input, buffer);
-    answered(rt, answer, words)
+    counted(rt, answer, buffer, words)
 }
 
 // Writes all of a text to the output. Where a write fails, one line on standard error has these words and the system's reason.

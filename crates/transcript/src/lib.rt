@@ -112,6 +112,7 @@ fn put_too_long(out: &mut [u8]) -> usize
 
 // The text in a buffer from its start, and how long it is: what the buffer has no room for is counted and not written. With more than
 // 65,536 bytes `too long` only.
+#[tactic(auto, using(crate::specs::Printing::text_long, crate::specs::Printing::text_run))]
 fn put_text(out: &mut [u8], input: &[u8]) -> usize
     ensures { Put out.old 0 (text_of input.now) out.new result × (result ≤ 409642) }
 {

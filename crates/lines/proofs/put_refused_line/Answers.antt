@@ -1,15 +1,11 @@
-use Rattle.std.proofs.Common.{rules, arith, sym}
+use Rattle.std.proofs.Common.{rules, arith}
 use Rattle.lines.specs.Lines.{refused_line}
-use Rattle.numerals.specs.Texts.{puts_then, puts_like}
+use Rattle.numerals.specs.Texts.{puts_then}
 use Rattle.lines.proofs.put_refused_line.Goals as goal
 
 pub returns : goal.returns
 unfolding refused_line
 returns c = (
-  search (
-    rules,
-    (puts_like (λ n. refused_line n c.args.refusal.place) (sym c.from.ensures)
-        (puts_then (puts_then c.put_word.ensures c.put_number.ensures.0) c.put_number-2.ensures.0)).text,
-  ),
+  search (rules, (puts_then (puts_then c.put_word.ensures c.put_number.ensures.0) c.put_number-2.ensures.0).text),
   omega (arith, c.put_word.ensures.text.next_is),
 )

@@ -8,5 +8,5 @@ pub returns-in-Ok : goal.returns-in-Ok
 returns-in-Ok c = (puts_like said (ap replied c.in-Ok.is) c.put_done.ensures.0, c.put_done.ensures.1)
 
 pub returns-in-Err : goal.returns-in-Err
-unfolding said
-returns-in-Err c = (puts_like said (ap replied c.in-Err.is ∙ ap Refused (sym c.from.ensures)) c.put_said.ensures.0, c.put_said.ensures.1)
+returns-in-Err c =
+    (puts_like said (ap replied c.in-Err.is ∙ ap Refused (sym c.from.ensures)) c.put_number_said.ensures.0, c.put_number_said.ensures.1)

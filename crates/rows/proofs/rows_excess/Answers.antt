@@ -11,7 +11,7 @@ sum-requires-clause-fits c =
     (
     λ p.
     row_above
-    (at (allowed_row c.args.state.now.opened c.args.nexts.now c.args.plan.now.destination c.args.crossing.now c.args.plan.now.processes c.args.plan.now.edges p))
+    (at (allowed_row c.args.state.now.opened c.args.nexts.now c.args.plan.now.destination c.args.crossing.now c.args.processes c.args.plan.now.edges p))
     c.args.state.now.marks p
     )
     c.map.ensures.source c.map.ensures.closure (λ x r q k. search (rules, tests)) (λ x r q k. search (rules, tests)) (search rules)
