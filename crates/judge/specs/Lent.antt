@@ -20,16 +20,49 @@ use Rattle.plan.specs.Tests.{home_table}
 use Rattle.plan.specs.Seating.{home_table_at, synchronises_exactly}
 use Rattle.seats.specs.Crossing.{crossing_table}
 use Rattle.seats.specs.Laws.{crossing_at}
+use Rattle.routes.specs.Relaxing.{EndsInRow}
 use Rattle.routes.specs.Settling.{row_most}
 use Rattle.rounds.specs.Lent.{bad_sum_in}
 use Rattle.cycles.specs.Lent.{loop_sum_in, Small}
 use Rattle.judge.specs.Tests.{loop_sum, sum_table}
+
+-- edges between known nodes, with tokens in bounds
+pub record EdgesOk (source destination tokens : List ℕ) (nodes edges : ℕ) : Type 0 where
+  pub nodes_most : nodes ≤ 64
+  pub edges_most : edges ≤ 512
+  pub source_lt : (e : ℕ) → e < edges → at source e < nodes
+  pub destination_lt : (e : ℕ) → e < edges → at destination e < nodes
+  pub tokens_most : (e : ℕ) → e < edges → at tokens e ≤ 1000
 
 -- counters, at least one, of nodes with increments in bounds
 pub record CountersOk (increment : List ℕ) (nodes counters : ℕ) : Type 0 where
   pub counters_some : 1 ≤ counters
   pub counters_most : counters ≤ 64
   pub increment_most : (v : ℕ) → v < nodes → at increment v ≤ 255
+
+module _ {source destination tokens : List ℕ} {nodes edges : ℕ} (ok : EdgesOk source destination tokens nodes edges) where
+  -- both ends of an edge have an entry in a row of the nodes
+  pub ends_in_row : EndsInRow source destination edges
+  ends_in_row =
+      record {
+        source_lt = λ e h. omega (arith, ok.source_lt e h, ok.nodes_most);
+        destination_lt = λ e h. omega (arith, ok.destination_lt e h, ok.nodes_most);
+      }
+
+  -- no loop sum is above 1,000 tokens and `no_route`
+  pub sums_small : {sums : List ℕ} → sums ≡ padded (loop_sum_in source destination tokens edges) 512 edges → Small sums
+  unfolding loop_sum_in
+  sums_small s e =
+      elim (dec_lt e edges) [
+        | yes l ↦
+            omega (
+              arith,
+              ap (λ x. at x e) s ∙ padded_at (loop_sum_in source destination tokens edges) 512 edges e l,
+              ok.tokens_most e l,
+              row_most source destination tokens edges (at destination e) (at source e) (ends_in_row.destination_lt e l),
+            )
+        | no l ↦ omega (arith, ap (λ x. at x e) s, padded_past (loop_sum_in source destination tokens edges) 512 edges e (omega arith))
+      ]
 
 -- a counter's sum is at most 64 increments of at most 255
 pub sum_most : (counter increment : List ℕ) (nodes counters c : ℕ) {q : ℕ} → CountersOk increment nodes counters → nodes ≤ 64
@@ -57,6 +90,16 @@ one_is true = refl
 one_is false = refl
 
 module _ (pl : Plan) (t : Tabled pl) where
+  pub edges_ok : EdgesOk pl.source pl.destination pl.tokens pl.nodes pl.edges
+  edges_ok =
+      record {
+        nodes_most = t.counts.nodes_most;
+        edges_most = t.counts.edges_most;
+        source_lt = t.source_lt;
+        destination_lt = t.destination_lt;
+        tokens_most = t.tokens_most;
+      }
+
   pub counters_ok : CountersOk pl.increment pl.nodes pl.counters
   counters_ok = record { counters_some = t.counts.counters_some; counters_most = t.counts.counters_most; increment_most = t.increment_most }
 
@@ -81,19 +124,3 @@ module _ (pl : Plan) (t : Tabled pl) where
   -- the row of loop sums holds them
   pub sum_at : (e : ℕ) → e < pl.edges → at (sum_table pl) e ≡ loop_sum pl e
   sum_at e h = padded_at (loop_sum pl) 512 pl.edges e h
-
-  -- no loop sum is above 1,000 tokens and `no_route`
-  pub sums_small : {sums : List ℕ} → sums ≡ padded (loop_sum_in pl.source pl.destination pl.tokens pl.edges) 512 pl.edges → Small sums
-  unfolding loop_sum_in
-  sums_small s e =
-      elim (dec_lt e pl.edges) [
-        | yes l ↦
-            omega (
-              arith,
-              ap (λ x. at x e) s ∙ padded_at (loop_sum_in pl.source pl.destination pl.tokens pl.edges) 512 pl.edges e l,
-              t.tokens_most e l,
-              row_most pl.source pl.destination pl.tokens pl.edges (at pl.destination e) (at pl.source e) (omega (arith, t.destination_lt e l, t.counts.nodes_most)),
-            )
-        | no l ↦
-            omega (arith, ap (λ x. at x e) s, padded_past (loop_sum_in pl.source pl.destination pl.tokens pl.edges) 512 pl.edges e (omega arith))
-      ]

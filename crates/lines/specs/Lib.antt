@@ -1,3 +1,4 @@
--- what a reader must believe: the words, the lines
+-- what a reader must believe: the words, the lines, what is put of an answer
 pub mod Words
 pub mod Lines
+pub mod Told

@@ -1,10 +1,11 @@
 #![tactic(auto)]
 // The lines of the text: the first line, and a line for each call.
-ghost use Rattle.std.specs.Prelude.{◌++◌, ◌+◌, ◌<◌, ◌≤◌, length, Ok};
+ghost use Rattle.std.specs.Prelude.{◌≡◌, ◌++◌, ◌+◌, ◌<◌, ◌≤◌, length, Ok};
 ghost use Rattle.lines.specs.Words.{newline};
 ghost use Rattle.lines.specs.Lines.{plan_line, refused_line, refusal_text, said, line};
-ghost use Rattle.judge.specs.Answer.{answered};
+ghost use Rattle.lines.specs.Told.{answer_of, reply_of};
 ghost use Rattle.machine.specs.Answers.{replied, Refused};
+ghost use Rattle.plan.specs.Refusals.{number_of};
 ghost use Rattle.numerals.specs.Decimal.{number_then};
 ghost use Rattle.numerals.specs.Texts.{Puts};
 ghost use Rattle.numerals.specs.Writing.{Put};
@@ -13,7 +14,24 @@ use judge::Acceptance;
 use machine::Done;
 use numerals::text::Text;
 use plan::Refusal;
-use refusals::Reason;
+
+// What a plan was turned down with, as it is put: any number and any place, also one that no test has.
+#[derive(Clone, Copy, PartialEq, Eq)]
+pub struct Numbered {
+    pub number: u32,
+    pub place: u32,
+}
+
+impl From<Refusal> for Numbered {
+    ghost from_gives = { λ refusal numbered. numbered ≡ record { number = number_of refusal.test; place = refusal.place } };
+
+    fn from(refusal: Refusal) -> Numbered {
+        Numbered {
+            number: u32::from(refusal.test),
+            place: refusal.place,
+        }
+    }
+}
 
 // First line: `plan` Q N least. Put at the start of the buffer; answers its length.
 pub fn put_plan_line(out: &mut [u8], accepted: Acceptance) -> usize
@@ -30,8 +48,8 @@ pub fn put_plan_line(out: &mut [u8], accepted: Acceptance) -> usize
     text.length
 }
 
-// First line: `refused` number place, whatever the number.
-pub fn put_refused_line(out: &mut [u8], number: u32, place: u32) -> usize
+// First line: `refused` number place.
+fn put_refused_line(out: &mut [u8], number: u32, place: u32) -> usize
     ensures { Put out.old 0 (refused_line number place) out.new result × (result ≤ 38) }
 {
     let mut text = Text {
@@ -45,12 +63,12 @@ pub fn put_refused_line(out: &mut [u8], number: u32, place: u32) -> usize
 }
 
 // The whole text of a refusal; an accepted plan is no refusal and prints nothing here.
-pub fn put_refusal(out: &mut [u8], answer: Result<Acceptance, Refusal>) -> usize
-    ensures { Put out.old 0 (refusal_text (answered answer)) out.new result × (result ≤ 38) }
+pub fn put_refusal(out: &mut [u8], answer: Result<Acceptance, Numbered>) -> usize
+    ensures { Put out.old 0 (refusal_text (answer_of answer)) out.new result × (result ≤ 38) }
 {
     match answer {
         Ok(_) => 0,
-        Err(refusal) => put_refused_line(out, u32::from(refusal.test), refusal.place),
+        Err(refusal) => put_refused_line(out, refusal.number, refusal.place),
     }
 }
 
@@ -85,30 +103,21 @@ fn put_number_said(text: &mut Text, number: u32)
     put_said(text, b" refused ", number);
 }
 
-// What a call did, or `refused` with the number.
-fn put_reply(text: &mut Text, reply: Result<Done, Reason>)
+// What a call did, or `refused` with the number, whichever it is.
+fn put_reply(text: &mut Text, reply: Result<Done, u32>)
     requires { text.old.length < 1000000 }
-    ensures { Puts text.old (said (replied reply)) text.new × (text.new.length ≤ text.old.length + 20) }
+    ensures { Puts text.old (said (reply_of reply)) text.new × (text.new.length ≤ text.old.length + 20) }
 {
     match reply {
         Ok(done) => put_done(text, done),
-        Err(reason) => put_number_said(text, u32::from(reason)),
+        Err(number) => put_number_said(text, number),
     }
 }
 
-// The line of a refused call, whatever the number: its index, and `refused` with the number.
-pub fn put_refused_call(text: &mut Text, index: u32, number: u32)
-    requires { (text.old.length < 900000) × (index < 100000) }
-    ensures { Puts text.old (line index (Refused number)) text.new × (text.new.length ≤ text.old.length + 25) }
-{
-    text.put_decimal(index);
-    put_number_said(text, number);
-}
-
 // The line of a call: its index, and what was answered.
-pub fn put_line(text: &mut Text, index: u32, reply: Result<Done, Reason>)
+pub fn put_line(text: &mut Text, index: u32, reply: Result<Done, u32>)
     requires { (text.old.length < 900000) × (index < 100000) }
-    ensures { Puts text.old (line index (replied reply)) text.new × (text.new.length ≤ text.old.length + 25) }
+    ensures { Puts text.old (line index (reply_of reply)) text.new × (text.new.length ≤ text.old.length + 25) }
 {
     text.put_decimal(index);
     put_reply(text, reply);

@@ -20,7 +20,7 @@ fn digit(d: u32) -> u8
     48 + d as u8
 }
 
-// The functions below go on from place to place in a register: a length behind a reference would be stored and loaded for each byte.
+// The functions below go on from place to place by value: a length behind a reference would be stored and loaded for each byte.
 
 // One byte at a place, and the place behind it.
 fn put_at(buffer: &mut [u8], place: usize, byte: u8) -> usize
@@ -51,11 +51,10 @@ fn put_decimal_at(buffer: &mut [u8], place: usize, n: u32) -> usize
     ensures { Put buffer.old place (decimal n) buffer.new result × (result ≤ place + 10) }
 {
     if n < 10 {
-        put_at(buffer, place, digit(n))
-    } else {
-        let next = put_decimal_at(buffer, place, n / 10);
-        put_at(buffer, next, digit(n % 10))
+        return put_at(buffer, place, digit(n));
     }
+    let next = put_decimal_at(buffer, place, n / 10);
+    put_at(buffer, next, digit(n % 10))
 }
 
 impl Text<'_> {

@@ -58,7 +58,7 @@ fn put_refusal(out: &mut impl fmt::Write, reason: Reason) -> fmt::Result {
     writeln!(out, "refused {number}")
 }
 
-// One request on the state where it stands: its line, and the state that it leaves.
+// One request: its line, and the state that it leaves, which is stored where it stands.
 fn put_request(
     out: &mut impl fmt::Write,
     plan: &Plan,

@@ -166,16 +166,16 @@ fn answered<T>(rt: &impl Eprint, answer: io::Result<T>, words: &[u8]) -> Result<
 #[tactic(auto, using(crate::specs::Counted::counted_is))]
 fn counted(
     rt: &impl Eprint,
-    answer: io::Result<usize>,
+    got: io::Result<usize>,
     bytes: &[u8],
     words: &[u8],
 ) -> Result<usize, Told>
-    requires { ReadsAtMost answer bytes.now }
-    ensures value { got_of result ≡ counts_as answer (length bytes.now) }
+    requires { ReadsAtMost got bytes.now }
+    ensures value { got_of result ≡ counts_as got (length bytes.now) }
     ensures held { Held result bytes.now }
-    ensures same { MatchResult answer (λ value. result ≡ Ok value) (λ _. IsErr result) }
+    ensures same { MatchResult got (λ value. result ≡ Ok value) (λ _. IsErr result) }
 {
-    answered(rt, answer, words)
+    answered(rt, got, words)
 }
 
 // Reads the input until the buffer is full or the input ends. Where a read fails, one line on standard error has these words and the system's

@@ -9,12 +9,16 @@ ghost use Rattle.numerals.specs.Writing.{Put};
 ghost use Rattle.machine.specs.States.{fresh};
 ghost use Rattle.transcript.specs.Text.{calls_text, image_length, run_text, text_of, printed_as};
 ghost use Rattle.lines.specs.Words.{too_long_line};
+ghost use Rattle.lines.specs.Told.{reply_of};
+ghost use Rattle.machine.specs.Answers.{replied};
 ghost use Rattle.transcript.specs.Running.{cut_if};
 ghost use Rattle.transcript.specs.Printing.{Answers};
 
+use lines::Numbered;
+use machine::Done;
 use numerals::text::Text;
 use plan::Plan;
-use refusals::Request;
+use refusals::{Reason, Request};
 use state::State;
 
 // A buffer that is too short for the text, which is so long.
@@ -58,6 +62,16 @@ fn put_left_over(text: &mut Text, left: usize)
     }
 }
 
+// What a call was answered, a refusal by its number.
+fn numbered(reply: Result<Done, Reason>) -> Result<Done, u32>
+    ensures { reply_of result ≡ replied reply }
+{
+    match reply {
+        Ok(done) => Ok(done),
+        Err(reason) => Err(u32::from(reason)),
+    }
+}
+
 // The calls of four bytes: code, process, edge (two bytes). The run begins from an accepted plan, fresh; each call keeps the shape, so none is tested.
 // (The plan's shape stands in this one contract: a type for it would be no plainer.)
 fn put_calls(text: &mut Text, plan: &Plan, calls: &[u8])
@@ -73,7 +87,7 @@ fn put_calls(text: &mut Text, plan: &Plan, calls: &[u8])
             process: u32::from(calls[i + 1]),
             edge: u32::from(numerals::pair_at(calls, i + 2)),
         };
-        let reply = machine::step_in_shape(plan, &mut state, request);
+        let reply = numbered(machine::step_in_shape(plan, &mut state, request));
         lines::put_line(text, index as u32, reply);
     }
     put_left_over(text, calls.len() - 4 * count);
@@ -86,8 +100,9 @@ fn put_run(out: &mut [u8], input: &[u8]) -> usize
 {
     let end = image_length(input);
     let reading = reader::read(&input[..end]);
-    let Ok(accepted) = reading.answer else {
-        return lines::put_refusal(out, reading.answer);
+    let accepted = match reading.answer {
+        Ok(accepted) => accepted,
+        Err(refusal) => return lines::put_refusal(out, Err(Numbered::from(refusal))),
     };
     let length = lines::put_plan_line(out, accepted);
     let mut text = Text {

@@ -1,6 +1,9 @@
-use Rattle.std.proofs.Common.{rules, arith}
+use Rattle.std.proofs.Common.{rules, arith, sym, ◌∙◌, Err}
 use Rattle.judge.specs.Answer.{answered}
 use Rattle.reader.specs.Answer.{told}
+use Rattle.lines.specs.Lines.{refusal_text}
+use Rattle.lines.specs.Told.{answer_of}
+use Rattle.numerals.specs.Writing.{put_same}
 use Rattle.transcript.specs.Printing.{behind_few, accepted_shape, run_accepted, run_refused}
 use mathlib.Core.Path.{ap}
 use Rattle.transcript.proofs.put_run.Goals as goal
@@ -19,9 +22,10 @@ returns c = (
   c.put_calls.ensures.1,
 )
 
-pub returns-in_default : goal.returns-in_default
-returns-in_default c = (
-  run_refused _ _ (told c.read-reading.result) c.image_length-end.ensures.0 c.read-reading.ensures _ _ (ap answered c.in_default.is)
-      c.put_refusal.ensures.0,
-  omega arith,
-)
+pub returns-in-Err : goal.returns-in-Err
+returns-in-Err c =
+    let same = ap (λ n. answer_of (Err n)) c.from.ensures ∙ sym (ap answered c.in-Err.is) in (
+      run_refused _ _ (told c.read-reading.result) c.image_length-end.ensures.0 c.read-reading.ensures _ _ (ap answered c.in-Err.is)
+          (put_same (ap refusal_text same) c.put_refusal.ensures.0),
+      omega arith,
+    )

@@ -6,5 +6,5 @@ use Rattle.numerals.proofs.text.+put_decimal_at.Goals as goal
 pub returns-then-n-lt10 : goal.returns-then-n-lt10
 returns-then-n-lt10 t c = put_digit _ (search rules) c.digit.ensures c.put_at.ensures
 
-pub returns-else-n-lt10 : goal.returns-else-n-lt10
-returns-else-n-lt10 t c = put_digits _ (search rules) (search rules) c.put_decimal_at-next.ensures.0 c.digit-else-n-lt10.ensures c.put_at-else-n-lt10.ensures
+pub returns : goal.returns
+returns t c = put_digits _ (search rules) (search rules) c.put_decimal_at-next.ensures.0 c.digit-2.ensures c.put_at-2.ensures
